@@ -1,0 +1,9 @@
+pub mod Windows
+pub mod Failing
+pub mod Among
+pub mod Plans
+pub mod Unique
+pub mod Hulls
+pub mod Bests
+pub mod Trimming
+pub mod Enumerating
