@@ -1,7 +1,8 @@
 //! Every refusal that a call can answer, with its number and its place.
 
 ghost use mathlib.Core.Path.{_≡_};
-ghost use Rattle.rules.specs.Faults.{number, place};
+ghost use Rattle.rules.specs.Faults.{number, place, words};
+ghost use Rattle.std.specs.declared.option.Option.the-variants.{Some};
 use std::fmt;
 
 /// Why a call was refused. A refused call alters no board, rule or list.
@@ -83,6 +84,8 @@ impl Fault {
 }
 
 pub impl fmt::Display for Fault as FaultDisplay {
+    ghost shown = { λ f. Some (words f) };
+
     fn fmt<W: fmt::Write>(&self, f: &mut fmt::Formatter<W>) -> fmt::Result {
         match self {
             Fault::ColumnCount => f.write_str("the number of columns is not from 1 to 32"),
