@@ -1,0 +1,69 @@
+-- What a row means, and what narrow owes for it.
+use mathlib.Core.Path.{_≡_, refl, sym, ap, subst, _∙_}
+use mathlib.Core.Bool.{Bool, true, false}
+use mathlib.Core.List.{List}
+use Prim.Native.Nat.{ℕ}
+use native.Mathlib.Omega.{arith}
+use borrow.Author.Needs.{needs}
+use lib.IntN.{ℤ}
+use Rattle.std.specs.Results.{isOk}
+use Rattle.std.specs.declared.option.Option.{Option}
+use Rattle.std.specs.declared.option.Option.the-variants.{None, Some}
+use Rattle.std.specs.declared.result.Result.the-variants.{Ok}
+use Rattle.rules.specs.declared.window.Window.{Window}
+use Rattle.rules.specs.declared.fault.Fault.{Fault}
+use Rattle.rules.specs.declared.verdict.Verdict.{Verdict}
+use Rattle.rules.specs.declared.verdict.Verdict.the-variants.{Open, Void}
+use Rattle.rules.specs.Refusals.{window-refusal, answer}
+use Rattle.rules.specs.Enumeration.{Leaves}
+use Rattle.rules.specs.Trims.{verdict-left}
+use Rattle.rules.specs.Meaning.{Scope, Meaning, tight-rule, fresh-scope, Narrowed}
+use Rattle.rules.proofs.Trimming.{narrowed-at}
+use Rattle.differences.specs.declared.apart.Apart.{Apart}
+use Rattle.differences.specs.Apart.{Counted, apart, apart-scope, apart-refusal, apart-meaning, meaning-if, fresh-rule}
+use Rattle.differences.proofs.Settings.{Set, has-set}
+use Rattle.differences.proofs.Outcomes.{tight-outcome, fresh-outcome}
+
+pub none-if-ok : (o : Option Fault) → isOk (answer o) ≡ true → o ≡ None
+none-if-ok None e = refl
+none-if-ok (Some f) e = search needs
+
+pub set-if-none : (o : Option Fault) (m : Meaning) → o ≡ None → meaning-if o m ≡ m
+set-if-none o m e = ap (λ f. meaning-if f m) e
+
+fresh-if-not : (o : Option Fault) (m : Meaning) → isOk (answer o) ≡ false → meaning-if o m ≡ fresh-rule
+fresh-if-not None m e = search needs
+fresh-if-not (Some f) m e = refl
+
+counted : (o : Option Fault) (s : Scope) → (o ≡ None → Counted (s .width)) → Counted (meaning-if o (tight-rule s false) .scope .width)
+counted None s f = f refl
+counted (Some g) s f = (omega arith, omega arith)
+
+module _ (row : Apart) where
+  abbrev refusal : Option Fault
+  refusal = apart-refusal (row .columns) (row .one) (row .other) (row .gap)
+
+  abbrev scope : Scope
+  scope = apart-scope (row .columns) (row .one) (row .other) (row .gap)
+
+  pub few-columns : Counted (apart-meaning row .scope .width)
+  few-columns = counted refusal scope (λ e. has-set _ _ _ _ e .counted)
+
+  -- the windows vs were not refused, by the number of columns n
+  module _ (n : ℕ) (vs : List Window) (width : n ≡ apart-meaning row .scope .width) (ok : window-refusal n vs ≡ None) where
+    pub fresh-narrowed : isOk (answer refusal) ≡ false → Narrowed (apart-meaning row) vs (Ok Open) vs
+    fresh-narrowed e =
+        let m = fresh-if-not refusal (tight-rule scope false) e in
+        narrowed-at (apart-meaning row) fresh-rule vs vs (Ok Open) (sym m)
+        (fresh-outcome vs (subst (λ (k : ℕ). window-refusal k vs ≡ None) (width ∙ ap (λ (r : Meaning). r .scope .width) m) ok))
+
+    pub taken-by : isOk (answer refusal) ≡ true → window-refusal (row .columns) vs ≡ None
+    taken-by e =
+        let m = set-if-none refusal (tight-rule scope false) (none-if-ok refusal e) in
+        subst (λ (k : ℕ). window-refusal k vs ≡ None) (width ∙ ap (λ (r : Meaning). r .scope .width) m) ok
+
+    pub set-narrowed : isOk (answer refusal) ≡ true → (v : Verdict) (ws : List Window) → Leaves (apart (row .one) (row .other) (row .gap)) vs (verdict-left v ws) → (v ≡ Void → ws ≡ vs) → Narrowed (apart-meaning row) vs (Ok v) ws
+    set-narrowed e v ws left stays =
+        let none = none-if-ok refusal e in
+        narrowed-at (apart-meaning row) (tight-rule scope false) vs ws (Ok v) (sym (set-if-none refusal (tight-rule scope false) none))
+        (tight-outcome scope vs ws (has-set _ _ _ _ none .counted .0) (taken-by e) v left stays)
