@@ -6,7 +6,7 @@ use mathlib.Core.Logic.{⊎-elim}
 use Prim.Native.Nat.{ℕ, zero, suc, _<_}
 use native.Mathlib.Omega.{arith}
 use borrow.Author.Needs.{needs}
-use lib.IntN.{ℤ, pos}
+use lib.IntN.{ℤ}
 use lib.Signed.{_≤ℤ_}
 use lib.ListN.{length, set, length-set}
 use Rattle.std.proofs.shelf.Lists.{getD-set-same, getD-set-other}
@@ -14,10 +14,10 @@ use Rattle.std.proofs.shelf.Tests.{and-parts, and-from, cases-eq}
 use Rattle.std.proofs.shelf.Signed.{ints}
 use Rattle.std.specs.declared.option.Option.the-variants.{None}
 use Rattle.rules.specs.declared.window.Window.{Window}
-use Rattle.rules.specs.Plans.{lawful, all-lawful, window-at, value-at, lies, inside, firsts, NoPlan, Keeps, Supported, Trimmed}
+use Rattle.rules.specs.Plans.{lawful, all-lawful, window-at, value-at, lies, inside, firsts, NoPlan, Keeps, Supported}
 use Rattle.rules.specs.Enumeration.{Left}
-use Rattle.rules.proofs.Windows.{lawful-at, lawful-ends, ends-lawful, Ends, Holds, holds-test, Within, lies-at, lies-set, lawful-set, inside-set, inside-trans, firsts-lie, length-firsts}
-use Rattle.differences.specs.Pairs.{In, Pair, PairLeft, PairLeaves}
+use Rattle.rules.proofs.Windows.{lawful-at, lawful-ends, ends-lawful, Holds, holds-test, lies-at, lies-set, lawful-set, inside-set, inside-trans, firsts-lie, length-firsts}
+use Rattle.differences.specs.Pairs.{Inside, Pair, PairLeft, PairLeaves}
 
 -- a plan with another value in one column
 pub lies-put : (x : List ℤ) (ws : List Window) (i : ℕ) (v : ℤ) → lies x ws ≡ true → Holds (window-at ws i) v → lies (set x i v) ws ≡ true
@@ -26,6 +26,15 @@ lies-put [] (w ∷ ws) i v h b = search needs
 lies-put (y ∷ x) [] i v h b = search needs
 lies-put (y ∷ x) (w ∷ ws) zero v h b = and-from _ _ (holds-test w v b) (and-parts _ _ h .1)
 lies-put (y ∷ x) (w ∷ ws) (suc i) v h b = and-from _ _ (and-parts _ _ h .0) (lies-put x ws i v (and-parts _ _ h .1) b)
+
+lawful-inside : (w v : Window) → lawful v ≡ true → Inside w v → w .first ≤ℤ w .last → lawful w ≡ true
+lawful-inside w v h i o = let e = lawful-ends v h in ends-lawful w (record { low = omega (arith, ints); high = omega (arith, ints); order = o })
+
+holds-first : (w : Window) → lawful w ≡ true → Holds w (w .first)
+holds-first w h = let e = lawful-ends w h in record { low = omega (arith, ints); high = e .order }
+
+holds-last : (w : Window) → lawful w ≡ true → Holds w (w .last)
+holds-last w h = let e = lawful-ends w h in record { low = e .order; high = omega (arith, ints) }
 
 -- the plans whose values in two columns are related
 abbrev pub between : (ℤ → ℤ → Bool) → ℕ → ℕ → List ℤ → Bool
@@ -51,20 +60,11 @@ module _ (R : ℤ → ℤ → Bool) (one other : ℕ) (vs : List Window) (one-th
     at-other : window-at after other ≡ w
     at-other = getD-set-same (set vs one v) other w _ (simp length-set other-there)
 
-    lawful-one : lawful v ≡ true
-    lawful-one =
-        let e = lawful-ends (window-at vs one) (lawful-at vs one all one-there) in
-        let p = left .one-first .1 in
-        ends-lawful v (record { low = omega (arith, ints, left .one-within); high = omega (arith, ints, left .one-within); order = p .one .1 })
-
-    lawful-other : lawful w ≡ true
-    lawful-other =
-        let e = lawful-ends (window-at vs other) (lawful-at vs other all other-there) in
-        let p = left .other-first .1 in
-        ends-lawful w (record { low = omega (arith, ints, left .other-within); high = omega (arith, ints, left .other-within); order = p .other .1 })
-
     after-lawful : all-lawful after ≡ true
-    after-lawful = lawful-set (set vs one v) other w (lawful-set vs one v all lawful-one) lawful-other
+    after-lawful =
+        lawful-set (set vs one v) other w
+        (lawful-set vs one v all (lawful-inside v (window-at vs one) (lawful-at vs one all one-there) (left .one-within) (left .one-first .1 .one .1)))
+        (lawful-inside w (window-at vs other) (lawful-at vs other all other-there) (left .other-within) (left .other-first .1 .other .1))
 
     after-inside : inside after vs ≡ true
     after-inside =
@@ -113,7 +113,7 @@ module _ (R : ℤ → ℤ → Bool) (one other : ℕ) (vs : List Window) (one-th
             at = plan-at;
           }
 
-    -- so both ends of each window are supported, if they are in the two
+    -- so an end of every window is supported, if it is one in the two windows
     end-supported : (end : Window → ℤ) → ((z : Window) → lawful z ≡ true → Holds z (end z)) → (y : ℤ) → Pair R v w (end v) y → (x : ℤ) → Pair R v w x (end w) → (i : ℕ) → i < length after → Supported (between R one other) after i (end (window-at after i))
     end-supported end is-end y p x q i l =
         let held = is-end (window-at after i) (lawful-at after i after-lawful l) in
@@ -121,12 +121,6 @@ module _ (R : ℤ → ℤ → Bool) (one other : ℕ) (vs : List Window) (one-th
         ⊎-elim (λ e. supported x (end w) q i _ l held (λ d. absurd (m d)) (λ d. ap (λ j. end (window-at after j)) e ∙ ap end at-other)) (λ n.
         supported (end v) y p i _ l held (λ d. absurd (m d)) (λ d. absurd (n d)))
         (cases-eq i other)) (cases-eq i one)
-
-    holds-first : (z : Window) → lawful z ≡ true → Holds z (z .first)
-    holds-first z h = let e = lawful-ends z h in record { low = omega (arith, ints); high = e .order }
-
-    holds-last : (z : Window) → lawful z ≡ true → Holds z (z .last)
-    holds-last z h = let e = lawful-ends z h in record { low = e .order; high = omega (arith, ints) }
 
     pub columns-left : Left (between R one other) vs after
     columns-left =

@@ -1,11 +1,10 @@
 -- The outcome of narrow for a tight rule, from what it leaves.
-use mathlib.Core.Path.{_≡_, refl, sym, ap, subst, _∙_}
+use mathlib.Core.Path.{_≡_, refl, sym, ap, _∙_}
 use mathlib.Core.Bool.{Bool, true, false}
 use mathlib.Core.List.{List}
-use Prim.Native.Nat.{ℕ, _≤_, _<_}
+use Prim.Native.Nat.{_≤_}
 use native.Mathlib.Omega.{arith}
-use lib.IntN.{ℤ}
-use lib.ListN.{length, set, take}
+use lib.ListN.{length, set}
 use Rattle.std.proofs.shelf.Lists.{take-all, getD-set-same}
 use Rattle.std.proofs.shelf.Tests.{both-ways}
 use Rattle.std.proofs.shelf.Signed.{ints}
@@ -14,7 +13,7 @@ use Rattle.std.specs.declared.result.Result.the-variants.{Ok}
 use Rattle.rules.specs.declared.window.Window.{Window}
 use Rattle.rules.specs.declared.verdict.Verdict.{Verdict}
 use Rattle.rules.specs.declared.verdict.Verdict.the-variants.{Open, Void}
-use Rattle.rules.specs.Plans.{all-lawful, window-at, lies, inside, Single, firsts, Supported, Trimmed, Filled}
+use Rattle.rules.specs.Plans.{all-lawful, window-at, Single, firsts, Trimmed, Filled}
 use Rattle.rules.specs.Refusals.{window-refusal}
 use Rattle.rules.specs.Enumeration.{Left, Leaves}
 use Rattle.rules.specs.Trims.{verdict-left}

@@ -4,7 +4,7 @@ use mathlib.Core.Bool.{Bool, true, false, _||_}
 use mathlib.Core.Logic.{_⊎_, inl, inr, ⊎-elim}
 use native.Mathlib.Omega.{arith}
 use lib.IntN.{ℤ, pos, negsuc, _+ℤ_, _-ℤ_}
-use lib.Signed.{_≤ℤ_, leZ, ltZ}
+use lib.Signed.{_≤ℤ_, ltZ}
 use mir.Syntax.{w32}
 use mir.Val.{SFits}
 use Rattle.std.specs.Numbers.{maxZ, minZ}
@@ -14,7 +14,7 @@ use Rattle.std.proofs.shelf.Tests.{or-cases, or-left, or-right, cases-cond}
 use Rattle.std.proofs.shelf.Signed.{ints, clamps}
 use Rattle.rules.specs.declared.window.Window.{Window}
 use Rattle.differences.specs.Apart.{ahead, InRange}
-use Rattle.differences.specs.Pairs.{In, Pair, PairLeft, PairLeaves, spanned}
+use Rattle.differences.specs.Pairs.{In, Inside, Pair, PairLeft, PairLeaves, spanned}
 
 ahead-le : (gap x y : ℤ) → ahead gap x y ≡ true → x ≤ℤ (y -ℤ gap)
 ahead-le gap x y h = grind (arith, ints)
@@ -22,7 +22,7 @@ ahead-le gap x y h = grind (arith, ints)
 le-ahead : (gap x y : ℤ) → x ≤ℤ (y -ℤ gap) → ahead gap x y ≡ true
 le-ahead gap x y h = grind (arith, ints)
 
--- the sums of a value and a gap are no larger than an i32
+-- a value less a gap, and with a gap added, fits an i32
 pub less-fits : (v gap : ℤ) → negsuc 29999999 ≤ℤ v → v ≤ℤ pos 30000000 → InRange gap → SFits w32 (v -ℤ gap)
 less-fits v gap l h r = omega (arith, ints)
 
@@ -75,23 +75,32 @@ left-exchanged R a b v w l =
       other-last = (l .one-last .0, pair-exchanged R w v _ _ (l .one-last .1));
     }
 
--- a wider relation has the pairs of R, and leaves the same where it has no others
+-- a wider relation has the pairs of R, in wider windows too, and leaves the same where it has no others
 module _ (R T : ℤ → ℤ → Bool) (wider : (x y : ℤ) → R x y ≡ true → T x y ≡ true) where
-  pair-wider : (v w : Window) (x y : ℤ) → Pair R v w x y → Pair T v w x y
-  pair-wider v w x y p = record { related = wider x y (p .related); one = p .one; other = p .other }
+  pair-wider : (v w a b : Window) → Inside v a → Inside w b → (x y : ℤ) → Pair R v w x y → Pair T a b x y
+  pair-wider v w a b f g x y p =
+      record { related = wider x y (p .related); one = (omega (arith, ints), omega (arith, ints)); other = (omega (arith, ints), omega (arith, ints)) }
 
-  pub leaves-wider : (a b : Window) (o : Option (Window × Window)) → ((x y : ℤ) → Pair T a b x y → Pair R a b x y) → PairLeaves R a b o → PairLeaves T a b o
+  leaves-wider : (a b : Window) (o : Option (Window × Window)) → ((x y : ℤ) → Pair T a b x y → Pair R a b x y) → PairLeaves R a b o → PairLeaves T a b o
   leaves-wider a b None only l = λ x y p. l x y (only x y p)
   leaves-wider a b (Some (v, w)) only l =
+      let same : (x y : ℤ) → Pair R v w x y → Pair T v w x y = pair-wider v w v w (omega (arith, ints), omega (arith, ints)) (omega (arith, ints), omega (arith, ints)) in
       record {
         one-within = l .one-within;
         other-within = l .other-within;
-        keeps = λ x y p. pair-wider v w x y (l .keeps x y (only x y p));
-        one-first = (l .one-first .0, pair-wider v w _ _ (l .one-first .1));
-        one-last = (l .one-last .0, pair-wider v w _ _ (l .one-last .1));
-        other-first = (l .other-first .0, pair-wider v w _ _ (l .other-first .1));
-        other-last = (l .other-last .0, pair-wider v w _ _ (l .other-last .1));
+        keeps = λ x y p. same x y (l .keeps x y (only x y p));
+        one-first = (l .one-first .0, same _ _ (l .one-first .1));
+        one-last = (l .one-last .0, same _ _ (l .one-last .1));
+        other-first = (l .other-first .0, same _ _ (l .other-first .1));
+        other-last = (l .other-last .0, same _ _ (l .other-last .1));
       }
+
+-- both of two windows lie in their span
+span-left : (v w : Window) → Inside v (spanned v w)
+span-left v w = (omega (arith, ints, clamps), omega (arith, ints, clamps))
+
+span-right : (v w : Window) → Inside w (spanned v w)
+span-right v w = (omega (arith, ints, clamps), omega (arith, ints, clamps))
 
 -- a number that is one of two
 one-of : (P : ℤ → Type 0) (x y z : ℤ) → (z ≡ x) ⊎ (z ≡ y) → P x → P y → P z
@@ -121,20 +130,10 @@ module _ (R S : ℤ → ℤ → Bool) (a b : Window) where
     Both x y = Pair either (spanned v v′) (spanned w w′) x y
 
     from-left : (x y : ℤ) → Pair R v w x y → Both x y
-    from-left x y p =
-        record {
-          related = or-left (R x y) (S x y) (p .related);
-          one = (omega (arith, ints, clamps), omega (arith, ints, clamps));
-          other = (omega (arith, ints, clamps), omega (arith, ints, clamps));
-        }
+    from-left = pair-wider R either (λ x y h. or-left (R x y) (S x y) h) v w (spanned v v′) (spanned w w′) (span-left v v′) (span-left w w′)
 
     from-right : (x y : ℤ) → Pair S v′ w′ x y → Both x y
-    from-right x y p =
-        record {
-          related = or-right (R x y) (S x y) (p .related);
-          one = (omega (arith, ints, clamps), omega (arith, ints, clamps));
-          other = (omega (arith, ints, clamps), omega (arith, ints, clamps));
-        }
+    from-right = pair-wider S either (λ x y h. or-right (R x y) (S x y) h) v′ w′ (spanned v v′) (spanned w w′) (span-right v v′) (span-right w w′)
 
     -- with some value of the other column, and of the one
     abbrev WithOther : ℤ → Type 0

@@ -1,11 +1,10 @@
 -- What a row means, and what narrow owes for it.
 use mathlib.Core.Path.{_≡_, refl, sym, ap, subst, _∙_}
-use mathlib.Core.Bool.{Bool, true, false}
+use mathlib.Core.Bool.{true, false}
 use mathlib.Core.List.{List}
 use Prim.Native.Nat.{ℕ}
 use native.Mathlib.Omega.{arith}
 use borrow.Author.Needs.{needs}
-use lib.IntN.{ℤ}
 use Rattle.std.specs.Results.{isOk}
 use Rattle.std.specs.declared.option.Option.{Option}
 use Rattle.std.specs.declared.option.Option.the-variants.{None, Some}
@@ -17,11 +16,11 @@ use Rattle.rules.specs.declared.verdict.Verdict.the-variants.{Open, Void}
 use Rattle.rules.specs.Refusals.{window-refusal, answer}
 use Rattle.rules.specs.Enumeration.{Leaves}
 use Rattle.rules.specs.Trims.{verdict-left}
-use Rattle.rules.specs.Meaning.{Scope, Meaning, tight-rule, fresh-scope, Narrowed}
+use Rattle.rules.specs.Meaning.{Scope, Meaning, tight-rule, Narrowed}
 use Rattle.rules.proofs.Trimming.{narrowed-at}
 use Rattle.differences.specs.declared.apart.Apart.{Apart}
 use Rattle.differences.specs.Apart.{Counted, apart, apart-scope, apart-refusal, apart-meaning, meaning-if, fresh-rule}
-use Rattle.differences.proofs.Settings.{Set, has-set}
+use Rattle.differences.proofs.Settings.{has-set}
 use Rattle.differences.proofs.Outcomes.{tight-outcome, fresh-outcome}
 
 pub none-if-ok : (o : Option Fault) → isOk (answer o) ≡ true → o ≡ None

@@ -8,9 +8,13 @@ use Rattle.std.specs.declared.option.Option.{Option}
 use Rattle.std.specs.declared.option.Option.the-variants.{None, Some}
 use Rattle.rules.specs.declared.window.Window.{Window}
 
--- x lies in the window w
+-- the value x lies in the window w
 abbrev pub In : Window → ℤ → Type 0
 In w x = (w .first ≤ℤ x) × (x ≤ℤ w .last)
+
+-- the window v lies in the window w
+abbrev pub Inside : Window → Window → Type 0
+Inside v w = (w .first ≤ℤ v .first) × (v .last ≤ℤ w .last)
 
 -- a related pair of values: x in the window a, and y in b
 pub record Pair (R : ℤ → ℤ → Bool) (a b : Window) (x y : ℤ) : Type 0 where
@@ -20,8 +24,8 @@ pub record Pair (R : ℤ → ℤ → Bool) (a b : Window) (x y : ℤ) : Type 0 w
 
 -- v and w are what R leaves of a and b: inside them, with every related pair, and each end in such a pair
 pub record PairLeft (R : ℤ → ℤ → Bool) (a b v w : Window) : Type 0 where
-  pub one-within : (a .first ≤ℤ v .first) × (v .last ≤ℤ a .last)
-  pub other-within : (b .first ≤ℤ w .first) × (w .last ≤ℤ b .last)
+  pub one-within : Inside v a
+  pub other-within : Inside w b
   pub keeps : (x y : ℤ) → Pair R a b x y → Pair R v w x y
   pub one-first : (y : ℤ) × Pair R v w (v .first) y
   pub one-last : (y : ℤ) × Pair R v w (v .last) y

@@ -25,7 +25,8 @@ pub const MOST_GAP: i32 = 60_000_000;
 
 /// Allows the plans in which column `one` is at most column `other` less the gap, or column `other` at most column `one` less it.
 ///
-/// It is tight. A row that no `set` could have made means what a fresh one means.
+/// It is tight: both ends of every window that it leaves are in allowed plans. A row that no `set` could have made means what a
+/// fresh one means.
 #[derive(Clone, Copy)]
 pub struct Apart {
     columns: usize,

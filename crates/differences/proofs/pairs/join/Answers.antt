@@ -1,4 +1,4 @@
-use mathlib.Core.Path.{sym, subst}
+use mathlib.Core.Path.{subst}
 use Rattle.std.specs.declared.option.Option.{Option}
 use Rattle.rules.specs.declared.window.Window.{Window}
 use Rattle.differences.specs.Pairs.{PairLeaves}
