@@ -3,6 +3,7 @@ use mathlib.Core.Path.{_≡_, refl, sym, ap, subst, _∙_}
 use mathlib.Core.Bool.{true, false}
 use mathlib.Core.List.{List}
 use Prim.Native.Nat.{ℕ}
+use lib.IntN.{ℤ}
 use native.Mathlib.Omega.{arith}
 use borrow.Author.Needs.{needs}
 use Rattle.std.specs.Results.{isOk}
@@ -37,6 +38,10 @@ fresh-if-not (Some f) m e = refl
 counted : (o : Option Fault) (s : Scope) → (o ≡ None → Counted (s .width)) → Counted (meaning-if o (tight-rule s false) .scope .width)
 counted None s f = f refl
 counted (Some g) s f = (omega arith, omega arith)
+
+-- a row with the numbers of an accepted setting
+pub set-means : (row : Apart) (columns one other : ℕ) (gap : ℤ) → row .columns ≡ columns → row .one ≡ one → row .other ≡ other → row .gap ≡ gap → apart-refusal columns one other gap ≡ None → apart-meaning row ≡ tight-rule (apart-scope columns one other gap) false
+set-means row columns one other gap c o p g none = let e : apart-meaning row ≡ meaning-if (apart-refusal columns one other gap) (tight-rule (apart-scope columns one other gap) false) = cc in e ∙ set-if-none _ _ none
 
 module _ (row : Apart) where
   abbrev refusal : Option Fault

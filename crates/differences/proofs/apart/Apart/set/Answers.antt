@@ -1,10 +1,11 @@
 use mathlib.Core.Path.{refl, sym}
 use borrow.Author.Needs.{needs}
+use mir.Syntax.{w32}
 use Rattle.std.proofs.shelf.Results.{cases-from-err}
 use Rattle.std.proofs.shelf.Signed.{toZ-ofZ}
 use Rattle.rules.proofs.Failing.{answer-ok}
 use Rattle.differences.proofs.Settings.{judged}
-use Rattle.differences.proofs.Rows.{set-if-none}
+use Rattle.differences.proofs.Rows.{set-means}
 use Rattle.differences.proofs.apart.Apart.set.Needs as need
 
 pub returns-in-Break-check-apart : need.returns-in-Break-check-apart
@@ -14,4 +15,8 @@ returns-in-Break-check-apart c =
 pub returns : need.returns
 returns c =
     let fits = c .fits .gap in
-    record { value = search needs; law = judged _ _ _ _; after = simp toZ-ofZ (set-if-none _ _ (answer-ok _ (sym (simp toZ-ofZ at (c .in-Continue-check-apart .ensures tt))))) }
+    record {
+      value = search needs;
+      law = judged _ _ _ _;
+      after = set-means _ _ _ _ _ refl refl refl (toZ-ofZ w32 _ fits) (answer-ok _ (sym (simp toZ-ofZ at (c .in-Continue-check-apart .ensures tt))));
+    }
