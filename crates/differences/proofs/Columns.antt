@@ -16,25 +16,11 @@ use Rattle.std.specs.declared.option.Option.the-variants.{None}
 use Rattle.rules.specs.declared.window.Window.{Window}
 use Rattle.rules.specs.Plans.{lawful, all-lawful, window-at, value-at, lies, inside, firsts, NoPlan, Keeps, Supported}
 use Rattle.rules.specs.Enumeration.{Left}
-use Rattle.rules.proofs.Windows.{lawful-at, lawful-ends, ends-lawful, Holds, holds-test, lies-at, lies-set, lawful-set, inside-set, inside-trans, firsts-lie, length-firsts}
+use Rattle.rules.proofs.Windows.{lawful-at, lawful-ends, ends-lawful, Holds, holds-first, holds-last, lies-put, lies-at, lies-set, lawful-set, inside-set, inside-trans, firsts-lie, length-firsts}
 use Rattle.differences.specs.Pairs.{Inside, Pair, PairLeft, PairLeaves}
-
--- a plan with another value in one column
-pub lies-put : (x : List ℤ) (ws : List Window) (i : ℕ) (v : ℤ) → lies x ws ≡ true → Holds (window-at ws i) v → lies (set x i v) ws ≡ true
-lies-put [] [] i v h b = refl
-lies-put [] (w ∷ ws) i v h b = search needs
-lies-put (y ∷ x) [] i v h b = search needs
-lies-put (y ∷ x) (w ∷ ws) zero v h b = and-from _ _ (holds-test w v b) (and-parts _ _ h .1)
-lies-put (y ∷ x) (w ∷ ws) (suc i) v h b = and-from _ _ (and-parts _ _ h .0) (lies-put x ws i v (and-parts _ _ h .1) b)
 
 lawful-inside : (w v : Window) → lawful v ≡ true → Inside w v → w .first ≤ℤ w .last → lawful w ≡ true
 lawful-inside w v h i o = let e = lawful-ends v h in ends-lawful w (record { low = omega (arith, ints); high = omega (arith, ints); order = o })
-
-holds-first : (w : Window) → lawful w ≡ true → Holds w (w .first)
-holds-first w h = let e = lawful-ends w h in record { low = omega (arith, ints); high = e .order }
-
-holds-last : (w : Window) → lawful w ≡ true → Holds w (w .last)
-holds-last w h = let e = lawful-ends w h in record { low = e .order; high = omega (arith, ints) }
 
 -- the plans whose values in two columns are related
 abbrev pub between : (ℤ → ℤ → Bool) → ℕ → ℕ → List ℤ → Bool

@@ -1,5 +1,4 @@
 pub mod Pairing
 pub mod Columns
-pub mod Outcomes
 pub mod Settings
 pub mod Rows

@@ -14,30 +14,16 @@ use Rattle.rules.specs.declared.window.Window.{Window}
 use Rattle.rules.specs.declared.fault.Fault.{Fault}
 use Rattle.rules.specs.declared.verdict.Verdict.{Verdict}
 use Rattle.rules.specs.declared.verdict.Verdict.the-variants.{Open, Void}
-use Rattle.rules.specs.Refusals.{window-refusal, answer}
+use Rattle.rules.specs.Refusals.{window-refusal, answer, Counted}
 use Rattle.rules.specs.Enumeration.{Leaves}
 use Rattle.rules.specs.Trims.{verdict-left}
-use Rattle.rules.specs.Meaning.{Scope, Meaning, tight-rule, Narrowed}
+use Rattle.rules.specs.Meaning.{Scope, Meaning, tight-rule, meaning-if, fresh-rule, Narrowed}
 use Rattle.rules.proofs.Trimming.{narrowed-at}
 use Rattle.differences.specs.declared.apart.Apart.{Apart}
-use Rattle.differences.specs.Apart.{Counted, apart, apart-scope, apart-refusal, apart-meaning, meaning-if, fresh-rule}
+use Rattle.differences.specs.Apart.{apart, apart-scope, apart-refusal, apart-meaning}
 use Rattle.differences.proofs.Settings.{has-set}
-use Rattle.differences.proofs.Outcomes.{tight-outcome, fresh-outcome}
-
-pub none-if-ok : (o : Option Fault) → isOk (answer o) ≡ true → o ≡ None
-none-if-ok None e = refl
-none-if-ok (Some f) e = search needs
-
-pub set-if-none : (o : Option Fault) (m : Meaning) → o ≡ None → meaning-if o m ≡ m
-set-if-none o m e = ap (λ f. meaning-if f m) e
-
-fresh-if-not : (o : Option Fault) (m : Meaning) → isOk (answer o) ≡ false → meaning-if o m ≡ fresh-rule
-fresh-if-not None m e = search needs
-fresh-if-not (Some f) m e = refl
-
-counted : (o : Option Fault) (s : Scope) → (o ≡ None → Counted (s .width)) → Counted (meaning-if o (tight-rule s false) .scope .width)
-counted None s f = f refl
-counted (Some g) s f = (omega arith, omega arith)
+use Rattle.rules.proofs.Outcomes.{tight-outcome, fresh-outcome}
+use Rattle.rules.proofs.Setting.{none-if-ok, set-if-none, fresh-if-not, counted-if}
 
 -- a row with the numbers of an accepted setting
 pub set-means : (row : Apart) (columns one other : ℕ) (gap : ℤ) → row .columns ≡ columns → row .one ≡ one → row .other ≡ other → row .gap ≡ gap → apart-refusal columns one other gap ≡ None → apart-meaning row ≡ tight-rule (apart-scope columns one other gap) false
@@ -51,7 +37,7 @@ module _ (row : Apart) where
   scope = apart-scope (row .columns) (row .one) (row .other) (row .gap)
 
   pub few-columns : Counted (apart-meaning row .scope .width)
-  few-columns = counted refusal scope (λ e. has-set _ _ _ _ e .counted)
+  few-columns = counted-if refusal (tight-rule scope false) (λ e. has-set _ _ _ _ e .counted)
 
   -- the windows vs were not refused, by the number of columns n
   module _ (n : ℕ) (vs : List Window) (width : n ≡ apart-meaning row .scope .width) (ok : window-refusal n vs ≡ None) where

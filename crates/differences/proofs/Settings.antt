@@ -13,8 +13,8 @@ use Rattle.std.specs.declared.option.Option.{Option}
 use Rattle.std.specs.declared.option.Option.the-variants.{None}
 use Rattle.rules.specs.declared.fault.Fault.{Fault}
 use Rattle.rules.specs.declared.fault.Fault.the-variants.{ColumnCount, NoColumn, ColumnTwice, OutOfRange}
-use Rattle.rules.specs.Refusals.{unless}
-use Rattle.differences.specs.Apart.{Counted, There, InRange, ApartJudged, column-count, no-column, column-twice, out-of-range, accepted, apart-refusal}
+use Rattle.rules.specs.Refusals.{unless, Counted}
+use Rattle.differences.specs.Apart.{There, InRange, ApartJudged, column-count, no-column, column-twice, out-of-range, accepted, apart-refusal}
 
 module _ (columns one other : ℕ) (gap : ℤ) where
   abbrev Judged : Option Fault → Type 0

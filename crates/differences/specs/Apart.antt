@@ -2,17 +2,17 @@
 use mathlib.Core.Path.{_≡_}
 use mathlib.Core.Bool.{Bool, true, false, not, _&&_, _||_}
 use mathlib.Core.List.{List}
-use Prim.Native.Nat.{ℕ, _<_, _≤_}
+use Prim.Native.Nat.{ℕ, _<_}
 use lib.IntN.{ℤ, pos, _-ℤ_}
 use lib.Signed.{_≤ℤ_, leZ}
-use lib.Dec.{leb, ltb, eqb}
+use lib.Dec.{ltb, eqb}
 use Rattle.std.specs.declared.option.Option.{Option}
 use Rattle.std.specs.declared.option.Option.the-variants.{None, Some}
 use Rattle.rules.specs.declared.fault.Fault.{Fault}
 use Rattle.rules.specs.declared.fault.Fault.the-variants.{ColumnCount, NoColumn, ColumnTwice, OutOfRange}
 use Rattle.rules.specs.Plans.{value-at}
-use Rattle.rules.specs.Refusals.{unless}
-use Rattle.rules.specs.Meaning.{Scope, Meaning, tight-rule, fresh-scope}
+use Rattle.rules.specs.Refusals.{unless, counted, Counted}
+use Rattle.rules.specs.Meaning.{Scope, Meaning, tight-rule, meaning-if}
 use Rattle.differences.specs.declared.apart.Apart.{Apart}
 
 -- x is at most y less the gap
@@ -33,14 +33,11 @@ apart-scope columns one other gap = record { width = columns; allows = apart one
 -- the fault of a setting
 unfoldable pub apart-refusal : ℕ → ℕ → ℕ → ℤ → Option Fault
 apart-refusal columns one other gap =
-    unless (leb 1 columns && leb columns 32) ColumnCount
+    unless (counted columns) ColumnCount
     (unless (ltb one columns && ltb other columns) (NoColumn 0)
     (unless (not (eqb one other)) (ColumnTwice 0) (unless (leZ (pos 1) gap && leZ gap (pos 60000000)) (OutOfRange 0) None)))
 
 -- the same in words: there are 1 to 32 columns, both are there, they are two, and the gap is in its range; the first that fails is answered
-abbrev pub Counted : ℕ → Type 0
-Counted columns = (1 ≤ columns) × (columns ≤ 32)
-
 abbrev pub There : ℕ → ℕ → ℕ → Type 0
 There columns one other = (one < columns) × (other < columns)
 
@@ -53,15 +50,6 @@ pub data ApartJudged (columns one other : ℕ) (gap : ℤ) : Option Fault → Ty
   column-twice : Counted columns → There columns one other → one ≡ other → ApartJudged columns one other gap (Some (ColumnTwice 0))
   out-of-range : Counted columns → There columns one other → (one ≡ other → ⊥) → (InRange gap → ⊥) → ApartJudged columns one other gap (Some (OutOfRange 0))
   accepted : Counted columns → There columns one other → (one ≡ other → ⊥) → InRange gap → ApartJudged columns one other gap None
-
--- what a fresh rule means
-abbrev pub fresh-rule : Meaning
-fresh-rule = tight-rule fresh-scope true
-
--- the meaning of a setting that is accepted, and else that of a fresh rule
-abbrev pub meaning-if : Option Fault → Meaning → Meaning
-meaning-if None m = m
-meaning-if (Some f) m = fresh-rule
 
 -- what a row means
 abbrev pub apart-meaning : Apart → Meaning

@@ -7,3 +7,5 @@ pub mod Hulls
 pub mod Bests
 pub mod Trimming
 pub mod Enumerating
+pub mod Outcomes
+pub mod Setting

@@ -179,3 +179,18 @@ single-plan x ws s h =
     let one = s i here in
     let held = lies-at x ws i h here in
     omega (arith, ints)
+
+-- a plan with another value in one column
+pub lies-put : (x : List ℤ) (ws : List Window) (i : ℕ) (v : ℤ) → lies x ws ≡ true → Holds (window-at ws i) v → lies (set x i v) ws ≡ true
+lies-put [] [] i v h b = refl
+lies-put [] (w ∷ ws) i v h b = search needs
+lies-put (y ∷ x) [] i v h b = search needs
+lies-put (y ∷ x) (w ∷ ws) zero v h b = and-from _ _ (holds-test w v b) (and-parts _ _ h .1)
+lies-put (y ∷ x) (w ∷ ws) (suc i) v h b = and-from _ _ (and-parts _ _ h .0) (lies-put x ws i v (and-parts _ _ h .1) b)
+
+-- both ends of a lawful window are in it
+pub holds-first : (w : Window) → lawful w ≡ true → Holds w (w .first)
+holds-first w h = let e = lawful-ends w h in record { low = omega (arith, ints); high = e .order }
+
+pub holds-last : (w : Window) → lawful w ≡ true → Holds w (w .last)
+holds-last w h = let e = lawful-ends w h in record { low = e .order; high = omega (arith, ints) }

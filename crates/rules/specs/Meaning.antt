@@ -5,6 +5,7 @@ use mathlib.Core.List.{List, [], _∷_}
 use Prim.Native.Nat.{ℕ}
 use lib.IntN.{ℤ}
 use lib.ListN.{take}
+use Rattle.std.specs.declared.option.Option.{Option}
 use Rattle.std.specs.declared.option.Option.the-variants.{None, Some}
 use Rattle.std.specs.declared.result.Result.{Result}
 use Rattle.std.specs.declared.result.Result.the-variants.{Ok, Err}
@@ -35,6 +36,14 @@ tight-rule s filled = record { scope = s; tight = true; full = filled; joined = 
 -- a fresh rule: one column, and every plan is allowed
 abbrev pub fresh-scope : Scope
 fresh-scope = record { width = 1; allows = λ _. true }
+
+abbrev pub fresh-rule : Meaning
+fresh-rule = tight-rule fresh-scope true
+
+-- the meaning of a setting that is accepted, and else that of a fresh rule
+abbrev pub meaning-if : Option Fault → Meaning → Meaning
+meaning-if None m = m
+meaning-if (Some f) m = fresh-rule
 
 -- none of these rules would strike anything from ws, or say void; a rule with fewer columns binds the leading ones
 abbrev pub Settled : List Scope → List Window → Type 0

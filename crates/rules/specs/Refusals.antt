@@ -1,9 +1,9 @@
 -- Which fault a call answers. Tests come in the order of the faults' numbers, so that of several the smallest is answered.
 use mathlib.Core.Path.{_≡_}
-use mathlib.Core.Bool.{Bool, true, false, cond}
+use mathlib.Core.Bool.{Bool, true, false, cond, _&&_}
 use mathlib.Core.List.{List, [], _∷_}
-use Prim.Native.Nat.{ℕ, suc, _<_}
-use lib.Dec.{eqb}
+use Prim.Native.Nat.{ℕ, suc, _<_, _≤_}
+use lib.Dec.{eqb, leb}
 use lib.ListN.{length}
 use Rattle.std.specs.Options.{mapped}
 use Rattle.std.specs.shelf.Lists.{At, Every}
@@ -46,6 +46,13 @@ at-first f (Some i) rest = Some (f i)
 abbrev pub answer : Option Fault → Result (Unit {0}) Fault
 answer None = Ok tt
 answer (Some f) = Err f
+
+-- a board has 1 to 32 columns: the test, and the same in words
+abbrev pub counted : ℕ → Bool
+counted k = leb 1 k && leb k 32
+
+abbrev pub Counted : ℕ → Type 0
+Counted k = (1 ≤ k) × (k ≤ 32)
 
 -- the fault of a list of windows that is offered to a rule of k columns
 unfoldable pub window-refusal : ℕ → List Window → Option Fault

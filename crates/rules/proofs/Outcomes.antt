@@ -10,17 +10,16 @@ use Rattle.std.proofs.shelf.Tests.{both-ways}
 use Rattle.std.proofs.shelf.Signed.{ints}
 use Rattle.std.specs.declared.option.Option.the-variants.{None}
 use Rattle.std.specs.declared.result.Result.the-variants.{Ok}
 use Rattle.rules.specs.declared.window.Window.{Window}
 use Rattle.rules.specs.declared.verdict.Verdict.{Verdict}
 use Rattle.rules.specs.declared.verdict.Verdict.the-variants.{Open, Void}
 use Rattle.rules.specs.Plans.{all-lawful, window-at, Single, firsts, Trimmed, Filled}
 use Rattle.rules.specs.Refusals.{window-refusal}
 use Rattle.rules.specs.Enumeration.{Left, Leaves}
 use Rattle.rules.specs.Trims.{verdict-left}
 use Rattle.rules.specs.Meaning.{Scope, tight-rule, fresh-scope, Opened, Narrowed}
-use Rattle.rules.proofs.Windows.{lawful-at, lawful-ends, lawful-from, lies-at, inside-at, inside-length, inside-same, lies-inside, firsts-lie, length-firsts, single-plan}
+use Rattle.rules.proofs.Windows.{lawful-at, lawful-ends, lawful-from, lies-at, inside-at, inside-length, inside-same, lies-inside, firsts-lie, length-firsts, single-plan, lies-put}
 use Rattle.rules.proofs.Failing.{taken}
-use Rattle.differences.proofs.Columns.{lies-put}
 
 module _ (s : Scope) (vs ws : List Window) (some : 1 ≤ s .width) (ok : window-refusal (s .width) vs ≡ None) where
   -- what a tight rule leaves is lawful, and decides single windows
@@ -61,13 +60,13 @@ module _ (s : Scope) (vs ws : List Window) (some : 1 ≤ s .width) (ok : window-
   tight-outcome Void l stays = record { accepted = ok; stays = stays refl; none = l }
 
 -- where every plan is allowed, every value of lawful windows is supported
-every-value : (ws : List Window) → all-lawful ws ≡ true → Filled (λ _. true) ws
+pub every-value : (ws : List Window) → all-lawful ws ≡ true → Filled (λ _. true) ws
 every-value ws h =
     record {
       each = λ i v l low high. record { plan = set (firsts ws) i v; allowed = refl; there = lies-put (firsts ws) ws i v (firsts-lie ws h) (record { low = low; high = high }); at = getD-set-same (firsts ws) i v _ (simp length-firsts l) };
     }
 
-every-end : (ws : List Window) → all-lawful ws ≡ true → Trimmed (λ _. true) ws
+pub every-end : (ws : List Window) → all-lawful ws ≡ true → Trimmed (λ _. true) ws
 every-end ws h =
     record {
       first-end = λ i l. every-value ws h .each i _ l (omega (arith, ints)) (lawful-ends (window-at ws i) (lawful-at ws i h l) .order);
