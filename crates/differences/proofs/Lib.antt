@@ -1,4 +1,4 @@
 pub mod Pairing
 pub mod Columns
 pub mod Settings
-pub mod Rows
+pub mod Means

@@ -5,7 +5,7 @@ use Rattle.std.proofs.shelf.Results.{cases-from-err}
 use Rattle.std.proofs.shelf.Signed.{toZ-ofZ}
 use Rattle.rules.proofs.Failing.{answer-ok}
 use Rattle.differences.proofs.Settings.{judged}
-use Rattle.differences.proofs.Rows.{set-means}
+use Rattle.differences.proofs.Means.{set-means}
 use Rattle.differences.proofs.apart.Apart.set.Needs as need
 
 pub returns-in-Break-check-apart : need.returns-in-Break-check-apart

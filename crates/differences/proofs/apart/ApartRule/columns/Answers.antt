@@ -1,6 +1,6 @@
 use mathlib.Core.Path.{refl}
 use native.Mathlib.Omega.{arith}
-use Rattle.differences.proofs.Rows.{few-columns}
+use Rattle.differences.proofs.Means.{few-columns}
 use Rattle.differences.proofs.apart.ApartRule.columns.Needs as need
 
 pub returns : need.returns

@@ -7,7 +7,7 @@ use Rattle.std.proofs.shelf.Signed.{toZ-ofZ}
 use Rattle.rules.proofs.Failing.{answer-ok, taken}
 use Rattle.differences.proofs.Settings.{has-set}
 use Rattle.rules.proofs.Setting.{none-if-ok}
-use Rattle.differences.proofs.Rows.{fresh-narrowed, taken-by, set-narrowed}
+use Rattle.differences.proofs.Means.{fresh-narrowed, taken-by, set-narrowed}
 use Rattle.differences.proofs.apart.ApartRule.narrow.Needs as need
 
 pub returns-then-not-is-set : need.returns-then-not-is-set
