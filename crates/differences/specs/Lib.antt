@@ -1,3 +1,9 @@
+pub mod Tables
+pub mod Closing
+pub mod Ends
+pub mod Links
+pub mod Distances
+pub mod Rules
 pub mod Apart
 pub mod Pairs
 pub mod Boards
