@@ -14,6 +14,7 @@ pub record Values (k : ℕ) (x : ℕ → ℤ) : Type 0 where
   pub low : (i : ℕ) → i < k → negsuc 29999999 ≤ℤ x i
   pub high : (i : ℕ) → i < k → x i ≤ℤ pos 30000000
 
+-- no entry of the row, and of the table, is out of range
 pub record NearRow (k : ℕ) (row : List ℤ) : Type 0 where
   pub near : (j : ℕ) → j < k → Near (getD row j (pos 0))
 
@@ -29,6 +30,7 @@ pub record Unlinked (rows : List (List ℤ)) : Type 0 where
   pub zeros : (i : ℕ) → i < 32 → entry rows i i ≡ pos 0
   pub far : (i j : ℕ) → i < 32 → j < 32 → (i ≡ j → ⊥) → entry rows i j ≡ pos 60000000
 
+-- the link at an index
 abbrev pub link-at : List Link → ℕ → Link
 link-at ls n = getD ls n (record { left = 0; right = 0; bound = pos 0 })
 

@@ -8,6 +8,7 @@ use Rattle.std.specs.Numbers.{maxZ, minZ}
 use Rattle.rules.specs.declared.window.Window.{Window}
 use Rattle.rules.specs.Plans.{window-at}
 
+-- the ends of the window of a column
 abbrev pub first-at : List Window → ℕ → ℤ
 first-at ws i = window-at ws i .first
 
@@ -29,7 +30,7 @@ pub record Cut (k : ℕ) (d : ℕ → ℕ → ℤ) (vs : List Window) (i : ℕ) 
   pub first : w .first ≡ first-left d (first-at vs) i k
   pub last : w .last ≡ last-left d (last-at vs) i k
 
--- the windows ws are what they leave of vs, and none is empty
+-- the first n windows of ws are what they leave of vs, and none is empty
 pub record AllCut (k : ℕ) (d : ℕ → ℕ → ℤ) (vs ws : List Window) (n : ℕ) : Type 0 where
   pub cut : (i : ℕ) → i < n → Cut k d vs i (window-at ws i)
   pub met : (i : ℕ) → i < n → first-at ws i ≤ℤ last-at ws i

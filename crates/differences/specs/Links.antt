@@ -13,7 +13,7 @@ use Rattle.std.specs.declared.option.Option.the-variants.{None, Some}
 use Rattle.rules.specs.declared.fault.Fault.{Fault}
 use Rattle.rules.specs.declared.fault.Fault.the-variants.{ColumnCount, NoColumn, ListLength, ColumnTwice, OutOfRange}
 use Rattle.rules.specs.Plans.{value-at}
-use Rattle.rules.specs.Refusals.{first-failing, First, unless, at-first}
+use Rattle.rules.specs.Refusals.{first-failing, First, unless, at-first, counted}
 use Rattle.rules.specs.Meaning.{Scope, Meaning, tight-rule}
 use Rattle.differences.specs.declared.link.Link.{Link}
 
@@ -48,7 +48,7 @@ bounded l = leZ (negsuc 59999999) (l .bound) && leZ (l .bound) (pos 60000000)
 -- the fault of links that are offered for k columns
 unfoldable pub links-refusal : ℕ → List Link → Option Fault
 links-refusal k ls =
-    unless (leb 1 k && leb k 32) ColumnCount
+    unless (counted k) ColumnCount
     (at-first NoColumn (first-failing (present k) ls)
     (unless (leb (length ls) 256) ListLength
     (at-first ColumnTwice (first-failing two-columns ls)

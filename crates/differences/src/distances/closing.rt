@@ -20,6 +20,7 @@ fn lower(row: &mut [i32; 32], column: usize, bound: i32)
     row[column] = row[column].min(bound);
 }
 
+/// Each column as far from each as two values can be.
 fn farthest_rows() -> [[i32; 32]; 32]
     ensures { λ r. ⌜ AllFar r ⌝ }
 {

@@ -20,6 +20,7 @@ use rules::Verdict;
 use rules::Window;
 use rules::check_windows;
 
+/// Room for the links.
 fn no_links() -> [Link; 256] {
     [Link {
         left: 0,
