@@ -1,0 +1,8 @@
+//! The scenes of the tour, in the order in which they are told.
+
+pub mod asked;
+pub mod crew;
+pub mod gaps;
+pub mod no_plan;
+pub mod refused;
+pub mod turns;
