@@ -1,0 +1,10 @@
+pub mod Steps
+pub mod Closed
+pub mod ByWay
+pub mod Ways
+pub mod Writes
+pub mod Rows
+pub mod Entries
+pub mod Ties
+pub mod Judging
+pub mod Offered

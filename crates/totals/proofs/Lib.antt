@@ -1,0 +1,16 @@
+pub mod Adding
+pub mod Growing
+pub mod Between
+pub mod Jumping
+pub mod Supporting
+pub mod Again
+pub mod Meeting
+pub mod Ends
+pub mod Summing
+pub mod Adds
+pub mod Ordered
+pub mod Plain
+pub mod Chained
+pub mod Placing
+pub mod Judging
+pub mod Rows
