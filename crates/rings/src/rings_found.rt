@@ -57,7 +57,7 @@ fn on_ring_below(table: &[Row], i: usize) -> bool
 }
 
 /// The smallest column on a ring below 0.
-pub fn first_on_ring(table: &[Row]) -> Option<usize>
+pub(crate) fn first_on_ring(table: &[Row]) -> Option<usize>
     requires { ⌜ length (now table) ≤ 32 ⌝ }
     ensures { λ r. ⌜ FirstOnRing (length (now (table .entry))) (at (now (table .entry))) r ⌝ }
 {
@@ -125,7 +125,7 @@ fn is_tied(table: &[Row], p: usize, summands: &[usize]) -> bool
 }
 
 /// The smallest summand that is tied to another.
-pub fn first_tied(table: &[Row], summands: &[usize]) -> Option<usize>
+pub(crate) fn first_tied(table: &[Row], summands: &[usize]) -> Option<usize>
     requires { ⌜ length (now table) ≤ 32 ⌝ }
     requires { ⌜ Bounded (length (now table)) 257698037760000000 (at (now table)) ⌝ }
     ensures { λ r. ⌜ FirstTied (length (now (table .entry))) (at (now (table .entry))) (now (summands .entry)) r ⌝ }

@@ -77,7 +77,7 @@ fn note(row: &mut Row, column: usize, bound: i32)
 }
 
 /// Enters the links into a blank table.
-pub fn enter(table: &mut [Row], links: &[Link])
+pub(crate) fn enter(table: &mut [Row], links: &[Link])
     requires { ⌜ length (now table) ≤ 32 ⌝ }
     requires { ⌜ Blank (length (now table)) (now table) ⌝ }
     requires { ⌜ GoodLinks (length (now table)) (now links) ⌝ }
@@ -90,7 +90,7 @@ pub fn enter(table: &mut [Row], links: &[Link])
 }
 
 /// Closes the table: afterwards no way by another column is left out.
-pub fn close(table: &mut [Row])
+pub(crate) fn close(table: &mut [Row])
     requires { ⌜ length (now table) ≤ 32 ⌝ }
     requires { ⌜ Bounded (length (now table)) 60000000 (at (now table)) ⌝ }
     ensures { λ _. ⌜ Closes (length (now (table .entry))) (at (now (table .entry))) (at (now (table .exit))) ⌝ }

@@ -14,3 +14,6 @@ pub mod Chained
 pub mod Placing
 pub mod Judging
 pub mod Rows
+pub mod LinkedJudging
+pub mod LinkedMeeting
+pub mod LinkedRows

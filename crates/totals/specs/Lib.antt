@@ -5,3 +5,5 @@ pub mod Sums
 pub mod Orders
 pub mod Rising
 pub mod Terms
+pub mod Linked
+pub mod LinkedRows

@@ -28,7 +28,7 @@ pub impl Test<usize> for There as ThereTest {
 }
 
 /// The index of the first summand whose column the total or an earlier summand names.
-fn first_again(total: usize, summands: &[usize]) -> Option<usize>
+pub(crate) fn first_again(total: usize, summands: &[usize]) -> Option<usize>
     requires total { ⌜ total < 32 ⌝ }
     requires there { ⌜ Columns 32 (now summands) ⌝ }
     ensures { λ r. ⌜ r ≡ first-again (total ∷ []) (now (summands .entry)) ⌝ }

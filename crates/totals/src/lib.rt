@@ -3,6 +3,7 @@
 mod chain;
 pub mod check;
 mod cutting;
+pub mod linked;
 mod reaching;
 pub mod rising;
 pub mod sum;
@@ -11,5 +12,10 @@ mod trim;
 mod unlinked;
 
 pub use check::check_sum;
+pub use linked::LinkedSum;
+pub use linked::check::check_linked;
+pub use linked::rule::LinkedSumRule;
 pub use rising::RisingSum;
+pub use rising::RisingSumRule;
 pub use sum::Sum;
+pub use sum::SumRule;

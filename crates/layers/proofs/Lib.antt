@@ -1,0 +1,12 @@
+pub mod Leading
+pub mod Widths
+pub mod Turns
+pub mod Pairs
+pub mod Listed
+pub mod Owning
+pub mod Mirroring
+pub mod Writing
+pub mod Shifting
+pub mod Lowering
+pub mod ShiftRange
+pub mod Spanning

@@ -1,0 +1,9 @@
+pub mod Leading
+pub mod Joining
+pub mod Both
+pub mod Each
+pub mod Owning
+pub mod Mirror
+pub mod Offset
+pub mod Shifts
+pub mod Either
