@@ -4,46 +4,28 @@ use crate::compare::BOARDS;
 use crate::compare::Claim;
 use crate::compare::Comparison;
 use crate::outcome;
-use crate::windows::Ends;
+use crate::table;
+use crate::table::Entries;
 use crate::windows::Shown;
 use crate::windows::ShownDisplay;
-use crate::windows::windows_of;
 use rules::Fault;
 use rules::Rule;
+use rules::Window;
 use std::alloc::Global;
 use std::io;
 
-/// A name, windows, and what comes of them.
-pub type Offer = (&'static str, &'static [Ends], &'static str);
-
 /// Windows that a rule of two columns has to refuse.
-pub const REFUSED: [Offer; 9] = [
-    ("first above last", &[(0, 9), (5, 4)], "refused with 3 at 1"),
-    (
-        "first below all values",
-        &[(-30_000_001, 0), (0, 9)],
-        "refused with 3 at 0",
-    ),
-    (
-        "last above all values",
-        &[(0, 9), (0, 30_000_001)],
-        "refused with 3 at 1",
-    ),
-    ("both unlawful", &[(1, 0), (5, 4)], "refused with 3 at 0"),
-    ("one window too few", &[(0, 9)], "refused with 8 at 0"),
-    (
-        "one window too many",
-        &[(0, 9), (0, 9), (0, 9)],
-        "refused with 8 at 0",
-    ),
-    ("no windows", &[], "refused with 8 at 0"),
-    ("too few, and unlawful", &[(5, 4)], "refused with 3 at 0"),
-    (
-        "too many, and unlawful",
-        &[(0, 9), (0, 9), (5, 4)],
-        "refused with 3 at 2",
-    ),
-];
+pub const REFUSED: &str = "
+first above last       | | |          0 9, 5 4 | refused with 3 at 1
+first below all values | | | -30000001 0, 0 9  | refused with 3 at 0
+last above all values  | | |   0 9, 0 30000001 | refused with 3 at 1
+both unlawful          | | |          1 0, 5 4 | refused with 3 at 0
+one window too few     | | |               0 9 | refused with 8 at 0
+one window too many    | | |     0 9, 0 9, 0 9 | refused with 8 at 0
+no windows             | | |                   | refused with 8 at 0
+too few, and unlawful  | | |               5 4 | refused with 3 at 0
+too many, and unlawful | | |     0 9, 0 9, 5 4 | refused with 3 at 2
+";
 
 /// How many checks were made, and how many of them went wrong.
 #[derive(Drop)]
@@ -94,29 +76,49 @@ impl<'a> Checks<'a> {
         self.judge(found.as_str(), expected)
     }
 
-    /// Trims windows by a rule, and checks what comes of it.
-    pub fn trim<R: Rule>(
-        &mut self,
-        name: &str,
-        rule: &mut R,
-        ends: &[Ends],
-        expected: &str,
-    ) -> io::Result<()> {
-        let given = windows_of(self.heap(), ends)?;
-        let mut left = windows_of(self.heap(), ends)?;
-        let answer = rules::trim(rule, &mut left);
-        let found = outcome::of_trim(self.heap(), answer, given.as_slice(), left.as_slice())?;
-        let shown = Shown(given.as_slice());
-        print!(self.rt, "  {name} [{shown}]: ")?;
-        self.judge(found.as_str(), expected)
-    }
-
-    /// Trims each of a list of windows by a rule.
-    pub fn trims<R: Rule>(&mut self, rule: &mut R, offers: &[Offer]) -> io::Result<()> {
-        for (name, ends, expected) in offers {
-            self.trim(name, rule, ends, expected)?;
+    /// Makes the checks of a table on one rule, a line after the other.
+    ///
+    /// The fields of a line are its name, a number of columns, entries, windows, and what comes of setting the rule and trimming the
+    /// windows by it. Where there is no number of columns, the rule is not set anew.
+    pub fn table<R: Rule + Entries>(&mut self, rule: &mut R, table: &str) -> io::Result<()> {
+        for line in table.lines() {
+            if !line.is_empty() {
+                let set = self.set_by(rule, line)?;
+                let given = table::windows(self.heap(), table::field(line, 3))?;
+                let found = self.trim(rule, set.as_str(), given.as_slice())?;
+                let name = table::field(line, 0);
+                let shown = Shown(given.as_slice());
+                print!(self.rt, "  {name} [{shown}]: ")?;
+                self.judge(found.as_str(), table::field(line, 4))?;
+            }
         }
         Ok(())
+    }
+
+    /// Sets a rule by a line, and answers the outcome, or nothing where the line does not set it.
+    fn set_by<R: Entries>(&self, rule: &mut R, line: &str) -> io::Result<String> {
+        let columns = table::numbers(self.heap(), table::field(line, 1))?;
+        let entries = table::numbers(self.heap(), table::field(line, 2))?;
+        match columns.first() {
+            Some(columns) => {
+                let set = rule.set_entries(
+                    self.heap(),
+                    table::column(*columns)?,
+                    entries.as_slice(),
+                )?;
+                let found = outcome::of_setting(self.heap(), set)?;
+                Ok(format!(self.heap(), "{found}, ")?)
+            }
+            None => Ok(String::new(self.heap())),
+        }
+    }
+
+    /// Trims windows by a rule, and answers the outcome behind that of setting the rule.
+    fn trim<R: Rule>(&self, rule: &mut R, set: &str, given: &[Window]) -> io::Result<String> {
+        let mut left = given.to_vec(self.heap())?;
+        let answer = rules::trim(rule, &mut left);
+        let found = outcome::of_trim(self.heap(), answer, given, left.as_slice())?;
+        Ok(format!(self.heap(), "{set}{found}")?)
     }
 
     /// Begins a comparison with plain enumeration.

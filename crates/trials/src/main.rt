@@ -10,6 +10,8 @@ mod links;
 mod outcome;
 mod plans;
 mod random;
+mod table;
+mod totals;
 mod windows;
 mod words;
 
@@ -22,6 +24,7 @@ fn run(rt: &LibcRuntime) -> io::Result<u64> {
     let mut checks = Checks::none(rt);
     links::check(&mut checks)?;
     apart::check(&mut checks)?;
+    totals::check(&mut checks)?;
     checks.conclude()
 }
 

@@ -68,13 +68,12 @@ pub fn held(
     column: usize,
     value: i32,
 ) -> Result<Vec<Window>, AllocError> {
-    let mut held = Vec::new(heap);
-    for (i, given) in windows.iter().enumerate() {
-        let point = Window {
+    let mut held = windows.to_vec(heap)?;
+    if let Some(window) = held.get_mut(column) {
+        *window = Window {
             first: value,
             last: value,
         };
-        held.push(if i == column { point } else { *given })?;
     }
     Ok(held)
 }

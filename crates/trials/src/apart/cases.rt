@@ -2,159 +2,85 @@
 
 use crate::checks::Checks;
 use crate::checks::REFUSED;
-use crate::windows::ALL;
-use crate::windows::Ends;
+use crate::table::Entries;
+use crate::table::column;
+use crate::table::unreadable;
 use differences::Apart;
 use differences::ApartRule;
+use rules::Fault;
+use std::alloc::Global;
 use std::io;
 
-/// All values but the largest.
-const MOST: Ends = (-30_000_000, 29_999_999);
-
-/// A name, a gap between columns 0 and 1, the windows that it is to trim, and what comes of that.
-type Trim = (&'static str, i32, &'static [Ends], &'static str);
-
-/// A name, a number of columns, two of them and a gap, and the answer to setting them.
-type Setting = (&'static str, usize, usize, usize, i32, &'static str);
-
-const TRIMS: [Trim; 18] = [
-    ("only 0 before 1", 4, &[(0, 5), (2, 4)], "leaves 0..0, 4..4"),
-    (
-        "a third column",
-        4,
-        &[(0, 5), (2, 4), (-1, 1)],
-        "leaves 0..0, 4..4, -1..1",
-    ),
-    ("only 1 before 0", 3, &[(5, 9), (4, 6)], "leaves 7..9, 4..6"),
-    ("either order", 4, &[(0, 9), (4, 5)], "leaves 0..9, 4..5"),
-    (
-        "either order, and 5 is in no plan",
-        4,
-        &[(5, 5), (4, 5)],
-        "void",
-    ),
-    (
-        "either order, at the ends",
-        6,
-        &[(0, 8), (2, 6)],
-        "leaves 0..8, 2..6",
-    ),
-    ("no order", 7, &[(0, 8), (2, 6)], "void"),
-    ("two values", 1, &[(2, 3), (2, 3)], "leaves 2..3, 2..3"),
-    ("one value", 1, &[(2, 2), (2, 2)], "void"),
-    (
-        "one plan, allowed",
-        4,
-        &[(1, 1), (5, 5)],
-        "leaves 1..1, 5..5",
-    ),
-    (
-        "one plan, allowed",
-        4,
-        &[(5, 5), (1, 1)],
-        "leaves 5..5, 1..1",
-    ),
-    ("one plan, not allowed", 4, &[(1, 1), (4, 4)], "void"),
-    ("one plan, not allowed", 4, &[(4, 4), (1, 1)], "void"),
-    (
-        "the largest gap",
-        60_000_000,
-        &[ALL, ALL],
-        "leaves -30000000..30000000, -30000000..30000000",
-    ),
-    (
-        "the largest gap",
-        60_000_000,
-        &[MOST, ALL],
-        "leaves -30000000..-30000000, 30000000..30000000",
-    ),
-    (
-        "the largest gap",
-        60_000_000,
-        &[ALL, MOST],
-        "leaves 30000000..30000000, -30000000..-30000000",
-    ),
-    ("the largest gap", 60_000_000, &[MOST, MOST], "void"),
-    (
-        "one less",
-        59_999_999,
-        &[MOST, MOST],
-        "leaves -30000000..29999999, -30000000..29999999",
-    ),
-];
-
-const SETTINGS: [Setting; 14] = [
-    ("no columns", 0, 0, 1, 1, "refused with 1 at 0"),
-    ("33 columns", 33, 0, 1, 1, "refused with 1 at 0"),
-    ("32 columns", 32, 31, 0, 1, "set"),
-    ("no such first column", 2, 2, 0, 1, "refused with 2 at 0"),
-    ("no such second column", 2, 0, 2, 1, "refused with 2 at 0"),
-    (
-        "no such column, twice, and gap 0",
-        2,
-        5,
-        5,
-        0,
-        "refused with 2 at 0",
-    ),
-    ("a column twice", 2, 1, 1, 4, "refused with 10 at 0"),
-    (
-        "a column twice, and gap 0",
-        2,
-        1,
-        1,
-        0,
-        "refused with 10 at 0",
-    ),
-    ("one column, twice", 1, 0, 0, 4, "refused with 10 at 0"),
-    ("gap 0", 2, 0, 1, 0, "refused with 11 at 0"),
-    ("gap -1", 2, 0, 1, -1, "refused with 11 at 0"),
-    ("gap 60000001", 2, 0, 1, 60_000_001, "refused with 11 at 0"),
-    ("gap 1", 2, 0, 1, 1, "set"),
-    ("gap 60000000", 2, 0, 1, 60_000_000, "set"),
-];
-
-/// One rule is set anew for each trim.
-fn check_trims(checks: &mut Checks<'_>, trims: &[Trim]) -> io::Result<()> {
-    let mut rule = Apart::fresh();
-    for (name, gap, ends, expected) in trims {
-        let _ = rule.set(ends.len(), 0, 1, *gap);
-        checks.trim(name, &mut rule, ends, expected)?;
+impl Entries for Apart as ApartEntries {
+    /// The entry is two columns and a gap.
+    fn set_entries(
+        &mut self,
+        _heap: Global,
+        columns: usize,
+        numbers: &[i32],
+    ) -> io::Result<Result<(), Fault>> {
+        let [one, other, gap] = numbers else {
+            return Err(unreadable());
+        };
+        Ok(self.set(columns, column(*one)?, column(*other)?, *gap))
     }
-    Ok(())
 }
 
-/// Each setting is tried on a rule that was set, which a refusal leaves as it was.
-fn check_settings(checks: &mut Checks<'_>, settings: &[Setting]) -> io::Result<()> {
-    for (name, columns, one, other, gap, expected) in settings {
-        let mut rule = Apart::fresh();
-        let _ = rule.set(2, 0, 1, 4);
-        let answer = rule.set(*columns, *one, *other, *gap);
-        let refused = answer.is_err();
-        checks.setting(name, answer, expected)?;
-        if refused {
-            checks.trim(
-                "as it was",
-                &mut rule,
-                &[(0, 5), (2, 4)],
-                "leaves 0..0, 4..4",
-            )?;
-        }
-    }
-    Ok(())
-}
+const TRIMS: &str = "
+fresh                             |   |       |           -7 7 | leaves -7..7
+fresh, two windows                |   |       |     -7 7, -7 7 | refused with 8 at 0
+only 0 before 1                   | 2 | 0 1 4 |       0 5, 2 4 | set, leaves 0..0, 4..4
+the same, named in turn           | 2 | 1 0 4 |       0 5, 2 4 | set, leaves 0..0, 4..4
+a third column                    | 3 | 0 1 4 | 0 5, 2 4, -1 1 | set, leaves 0..0, 4..4, -1..1
+a column between                  | 3 | 0 2 4 | 0 5, -1 1, 2 4 | set, leaves 0..0, -1..1, 4..4
+only 1 before 0                   | 2 | 0 1 3 |       5 9, 4 6 | set, leaves 7..9, 4..6
+either order                      | 2 | 0 1 4 |       0 9, 4 5 | set, leaves 0..9, 4..5
+either order, and 5 is in no plan | 2 | 0 1 4 |       5 5, 4 5 | set, void
+either order, at the ends         | 2 | 0 1 6 |       0 8, 2 6 | set, leaves 0..8, 2..6
+no order                          | 2 | 0 1 7 |       0 8, 2 6 | set, void
+two values                        | 2 | 0 1 1 |       2 3, 2 3 | set, leaves 2..3, 2..3
+one value                         | 2 | 0 1 1 |       2 2, 2 2 | set, void
+one plan, allowed                 | 2 | 0 1 4 |       1 1, 5 5 | set, leaves 1..1, 5..5
+one plan, allowed                 | 2 | 0 1 4 |       5 5, 1 1 | set, leaves 5..5, 1..1
+one plan, not allowed             | 2 | 0 1 4 |       1 1, 4 4 | set, void
+one plan, not allowed             | 2 | 0 1 4 |       4 4, 1 1 | set, void
+";
+
+const FAR: &str = "
+the largest gap           | 2 | 0 1 60000000 | -30000000 30000000, -30000000 30000000 | set, leaves -30000000..30000000, -30000000..30000000
+the largest gap           | 2 | 0 1 60000000 | -30000000 29999999, -30000000 30000000 | set, leaves -30000000..-30000000, 30000000..30000000
+the largest gap           | 2 | 0 1 60000000 | -30000000 30000000, -30000000 29999999 | set, leaves 30000000..30000000, -30000000..-30000000
+the largest gap           | 2 | 0 1 60000000 | -30000000 29999999, -30000000 29999999 | set, void
+one below the largest gap | 2 | 0 1 59999999 | -30000000 29999999, -30000000 29999999 | set, leaves -30000000..29999999, -30000000..29999999
+";
+
+/// A setting that is refused leaves the rule as the first line sets it.
+const SETTINGS: &str = "
+gap 4                   |  2 | 0 1 4        | 0 5, 2 4 | set, leaves 0..0, 4..4
+no columns              |  0 | 0 1 1        | 0 5, 2 4 | refused with 1 at 0, leaves 0..0, 4..4
+33 columns              | 33 | 0 1 1        | 0 5, 2 4 | refused with 1 at 0, leaves 0..0, 4..4
+no such first column    |  2 | 2 0 1        | 0 5, 2 4 | refused with 2 at 0, leaves 0..0, 4..4
+no such second column   |  2 | 0 2 1        | 0 5, 2 4 | refused with 2 at 0, leaves 0..0, 4..4
+that, twice, and gap 0  |  2 | 5 5 0        | 0 5, 2 4 | refused with 2 at 0, leaves 0..0, 4..4
+a column twice          |  2 | 1 1 4        | 0 5, 2 4 | refused with 10 at 0, leaves 0..0, 4..4
+that, and gap 0         |  2 | 1 1 0        | 0 5, 2 4 | refused with 10 at 0, leaves 0..0, 4..4
+one column, twice       |  1 | 0 0 4        | 0 5, 2 4 | refused with 10 at 0, leaves 0..0, 4..4
+gap 0                   |  2 | 0 1 0        | 0 5, 2 4 | refused with 11 at 0, leaves 0..0, 4..4
+gap -1                  |  2 | 0 1 -1       | 0 5, 2 4 | refused with 11 at 0, leaves 0..0, 4..4
+gap 60000001            |  2 | 0 1 60000001 | 0 5, 2 4 | refused with 11 at 0, leaves 0..0, 4..4
+gap 60000000            |  2 | 0 1 60000000 | 0 5, 2 4 | set, void
+32 columns              | 32 | 31 0 1       | 0 5, 2 4 | set, refused with 8 at 0
+gap 1                   |  2 | 0 1 1        | 0 5, 2 4 | set, leaves 0..5, 2..4
+";
 
 pub fn check(checks: &mut Checks<'_>) -> io::Result<()> {
     let mut rule = Apart::fresh();
-    checks.trim("fresh", &mut rule, &[(-7, 7)], "leaves -7..7")?;
-    checks.trim(
-        "fresh",
+    checks.table(&mut rule, TRIMS)?;
+    checks.table(&mut rule, FAR)?;
+    checks.table(&mut rule, SETTINGS)?;
+    checks.table(&mut rule, REFUSED)?;
+    checks.table(
         &mut rule,
-        &[(-7, 7), (-7, 7)],
-        "refused with 8 at 0",
-    )?;
-    check_trims(checks, &TRIMS)?;
-    check_settings(checks, &SETTINGS)?;
-    checks.setting("gap 4", rule.set(2, 0, 1, 4), "set")?;
-    checks.trims(&mut rule, &REFUSED)
+        "as it was set | | | 0 5, 2 4 | leaves 0..5, 2..4",
+    )
 }
