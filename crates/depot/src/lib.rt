@@ -4,3 +4,4 @@ mod hours;
 pub mod quarter_hours;
 
 pub use quarter_hours::QuarterHours;
+pub use quarter_hours::QuarterHoursRule;

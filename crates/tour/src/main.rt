@@ -12,5 +12,6 @@ fn main(rt: LibcRuntime) -> io::Result<()> {
     scenes::crew::tell(&rt)?;
     scenes::turns::tell(&rt)?;
     scenes::no_plan::tell(&rt)?;
-    scenes::refused::tell(&rt)
+    scenes::refused::tell(&rt)?;
+    scenes::working_time::tell(&rt)
 }

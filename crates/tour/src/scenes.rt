@@ -6,3 +6,4 @@ pub mod gaps;
 pub mod no_plan;
 pub mod refused;
 pub mod turns;
+pub mod working_time;
