@@ -9,7 +9,7 @@ use rules::fault::FaultDisplay;
 use std::io;
 
 /// Prints the title of a scene.
-pub fn title(rt: &LibcRuntime, text: &str) -> io::Result<()> {
+pub(crate) fn title(rt: &LibcRuntime, text: &str) -> io::Result<()> {
     println!(rt, "")?;
     println!(rt, "{text}")?;
     println!(rt, "")
@@ -28,7 +28,7 @@ fn start(rt: &LibcRuntime, column: usize, name: &str, window: &Window) -> io::Re
 }
 
 /// Prints a line for each visit: columns count from 0 in the order of the names.
-pub fn starts(rt: &LibcRuntime, names: &[&str], windows: &[Window]) -> io::Result<()> {
+pub(crate) fn starts(rt: &LibcRuntime, names: &[&str], windows: &[Window]) -> io::Result<()> {
     for (column, (name, window)) in names.iter().zip(windows).enumerate() {
         start(rt, column, name, window)?;
     }
@@ -36,7 +36,7 @@ pub fn starts(rt: &LibcRuntime, names: &[&str], windows: &[Window]) -> io::Resul
 }
 
 /// Prints a refusal: its number, its place and its words.
-pub fn refusal(rt: &LibcRuntime, fault: &Fault) -> io::Result<()> {
+pub(crate) fn refusal(rt: &LibcRuntime, fault: &Fault) -> io::Result<()> {
     let number = fault.number();
     let place = fault.place();
     println!(
@@ -46,7 +46,7 @@ pub fn refusal(rt: &LibcRuntime, fault: &Fault) -> io::Result<()> {
 }
 
 /// Prints whether a rule was set.
-pub fn setting(rt: &LibcRuntime, rule: &str, outcome: Result<(), Fault>) -> io::Result<()> {
+pub(crate) fn setting(rt: &LibcRuntime, rule: &str, outcome: Result<(), Fault>) -> io::Result<()> {
     match outcome {
         Ok(()) => println!(rt, "  {rule}: set."),
         Err(fault) => refusal(rt, &fault),
@@ -54,7 +54,7 @@ pub fn setting(rt: &LibcRuntime, rule: &str, outcome: Result<(), Fault>) -> io::
 }
 
 /// Prints what a rule answered to the windows, and the windows after that.
-pub fn trimming(
+pub(crate) fn trimming(
     rt: &LibcRuntime,
     rule: &str,
     outcome: Result<Verdict, Fault>,

@@ -6,7 +6,7 @@ mod cases;
 use crate::checks::Checks;
 use std::io;
 
-pub fn check(checks: &mut Checks<'_>) -> io::Result<()> {
+pub(crate) fn check(checks: &mut Checks<'_>) -> io::Result<()> {
     checks.title("Apart, fixed cases")?;
     cases::check(checks)?;
     checks.title("Apart, random boards against plain enumeration")?;

@@ -28,7 +28,7 @@ fn draw_window(random: &mut Random, origin: i32) -> Window {
 }
 
 /// Draws a board. On one board in four the columns may lie far from one another.
-pub fn draw(heap: Global, random: &mut Random, columns: u8) -> Result<Board, AllocError> {
+pub(crate) fn draw(heap: Global, random: &mut Random, columns: u8) -> Result<Board, AllocError> {
     let mut origins = Vec::new(heap);
     let mut windows = Vec::new(heap);
     let far = random.below(4) == 0;
@@ -42,12 +42,12 @@ pub fn draw(heap: Global, random: &mut Random, columns: u8) -> Result<Board, All
 
 impl Board {
     /// The windows, one for each column.
-    pub fn windows(&self) -> &[Window] {
+    pub(crate) fn windows(&self) -> &[Window] {
         self.windows.as_slice()
     }
 
     /// How far column `left` lies above column `right`.
-    pub fn distance(&self, left: usize, right: usize) -> i32 {
+    pub(crate) fn distance(&self, left: usize, right: usize) -> i32 {
         let above = self.origins.get(left).copied().unwrap_or(0);
         let below = self.origins.get(right).copied().unwrap_or(0);
         above.saturating_sub(below)

@@ -36,7 +36,7 @@ pub struct Checks<'a> {
 }
 
 impl<'a> Checks<'a> {
-    pub fn none(rt: &'a LibcRuntime) -> Self {
+    pub(crate) fn none(rt: &'a LibcRuntime) -> Self {
         Checks {
             rt,
             made: 0,
@@ -45,12 +45,12 @@ impl<'a> Checks<'a> {
     }
 
     /// The allocator.
-    pub fn heap(&self) -> Global {
+    pub(crate) fn heap(&self) -> Global {
         self.rt.alloc()
     }
 
     /// Prints the title of a group of checks.
-    pub fn title(&self, text: &str) -> io::Result<()> {
+    pub(crate) fn title(&self, text: &str) -> io::Result<()> {
         println!(self.rt, "{text}")
     }
 
@@ -65,7 +65,7 @@ impl<'a> Checks<'a> {
     }
 
     /// Checks the answer of setting a rule.
-    pub fn setting(
+    pub(crate) fn setting(
         &mut self,
         name: &str,
         set: Result<(), Fault>,
@@ -80,7 +80,7 @@ impl<'a> Checks<'a> {
     ///
     /// The fields of a line are its name, a number of columns, entries, windows, and what comes of setting the rule and trimming the
     /// windows by it. Where there is no number of columns, the rule is not set anew.
-    pub fn table<R: Rule + Entries>(&mut self, rule: &mut R, table: &str) -> io::Result<()> {
+    pub(crate) fn table<R: Rule + Entries>(&mut self, rule: &mut R, table: &str) -> io::Result<()> {
         for line in table.lines() {
             if !line.is_empty() {
                 let set = self.set_by(rule, line)?;
@@ -122,19 +122,19 @@ impl<'a> Checks<'a> {
     }
 
     /// Begins a comparison with plain enumeration.
-    pub fn comparison(&self, claim: Claim) -> Comparison<'a> {
+    pub(crate) fn comparison(&self, claim: Claim) -> Comparison<'a> {
         Comparison::new(self.rt, claim)
     }
 
     /// Ends a comparison: prints what was compared, and counts the boards.
-    pub fn compared(&mut self, comparison: &Comparison<'_>) -> io::Result<()> {
+    pub(crate) fn compared(&mut self, comparison: &Comparison<'_>) -> io::Result<()> {
         self.made = self.made.saturating_add(u64::from(BOARDS));
         self.wrong = self.wrong.saturating_add(comparison.differing());
         comparison.conclude()
     }
 
     /// Prints how many checks were made and how many went wrong, and answers the second.
-    pub fn conclude(&self) -> io::Result<u64> {
+    pub(crate) fn conclude(&self) -> io::Result<u64> {
         let made = self.made;
         let wrong = self.wrong;
         println!(

@@ -41,7 +41,7 @@ pub struct Comparison<'a> {
 }
 
 impl<'a> Comparison<'a> {
-    pub fn new(rt: &'a LibcRuntime, claim: Claim) -> Self {
+    pub(crate) fn new(rt: &'a LibcRuntime, claim: Claim) -> Self {
         Comparison {
             rt,
             claim,
@@ -53,18 +53,18 @@ impl<'a> Comparison<'a> {
     }
 
     /// The allocator.
-    pub fn heap(&self) -> Global {
+    pub(crate) fn heap(&self) -> Global {
         self.rt.alloc()
     }
 
     /// How many boards differ.
-    pub fn differing(&self) -> u64 {
+    pub(crate) fn differing(&self) -> u64 {
         self.differing
     }
 
     /// Trims the windows of a board by a rule, and prints the board where the rule and the enumeration differ.
     /// `set` is the answer of setting the rule.
-    pub fn board<R: Rule, W: Words>(
+    pub(crate) fn board<R: Rule, W: Words>(
         &mut self,
         set: Result<(), Fault>,
         rule: &mut R,
@@ -157,7 +157,7 @@ impl<'a> Comparison<'a> {
     }
 
     /// Prints what was compared.
-    pub fn conclude(&self) -> io::Result<()> {
+    pub(crate) fn conclude(&self) -> io::Result<()> {
         let open = self.open;
         let void = self.void;
         let values = self.values;

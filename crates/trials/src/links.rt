@@ -12,7 +12,7 @@ fn link(left: usize, right: usize, bound: i32) -> Link {
     Link { left, right, bound }
 }
 
-pub fn check(checks: &mut Checks<'_>) -> io::Result<()> {
+pub(crate) fn check(checks: &mut Checks<'_>) -> io::Result<()> {
     checks.title("Links, fixed cases")?;
     cases::check(checks)?;
     checks.title("Links, random boards against plain enumeration")?;

@@ -17,7 +17,7 @@ fn of_fault(heap: Global, fault: &Fault) -> Result<String, AllocError> {
 }
 
 /// The outcome of setting a rule.
-pub fn of_setting(heap: Global, answer: Result<(), Fault>) -> Result<String, AllocError> {
+pub(crate) fn of_setting(heap: Global, answer: Result<(), Fault>) -> Result<String, AllocError> {
     match answer {
         Ok(()) => String::from_str(heap, "set"),
         Err(fault) => of_fault(heap, &fault),
@@ -25,7 +25,7 @@ pub fn of_setting(heap: Global, answer: Result<(), Fault>) -> Result<String, All
 }
 
 /// The outcome of trimming the windows `given`, where `left` is what they are after it.
-pub fn of_trim(
+pub(crate) fn of_trim(
     heap: Global,
     answer: Result<Verdict, Fault>,
     given: &[Window],
@@ -49,6 +49,6 @@ pub fn of_trim(
 }
 
 /// Whether two outcomes are the same.
-pub fn same(found: &str, expected: &str) -> bool {
+pub(crate) fn same(found: &str, expected: &str) -> bool {
     found == expected
 }

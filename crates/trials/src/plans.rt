@@ -46,7 +46,7 @@ fn advance(plan: &mut [i32], windows: &[Window]) {
 }
 
 /// Whether an allowed plan lies in the windows.
-pub fn any_allowed<W: Words>(
+pub(crate) fn any_allowed<W: Words>(
     heap: Global,
     words: &W,
     windows: &[Window],
@@ -62,7 +62,7 @@ pub fn any_allowed<W: Words>(
 }
 
 /// The windows with one column held at a value.
-pub fn held(
+pub(crate) fn held(
     heap: Global,
     windows: &[Window],
     column: usize,

@@ -11,7 +11,7 @@ pub struct Random {
 
 impl Random {
     /// A generator that starts from a seed. Its state is never 0.
-    pub fn from_seed(seed: u64) -> Self {
+    pub(crate) fn from_seed(seed: u64) -> Self {
         Random { state: seed | 1 }
     }
 
@@ -25,7 +25,7 @@ impl Random {
     }
 
     /// A number below `count`, and 0 where that is 0.
-    pub fn below(&mut self, count: u8) -> u8
+    pub(crate) fn below(&mut self, count: u8) -> u8
         ensures { λ r. ⌜ (1 ≤ count → r < count) ⌝ }
     {
         if count == 0 {
@@ -35,12 +35,12 @@ impl Random {
     }
 
     /// One of `count` numbers from `least` upwards.
-    pub fn upwards(&mut self, least: i32, count: u8) -> i32 {
+    pub(crate) fn upwards(&mut self, least: i32, count: u8) -> i32 {
         least.saturating_add(i32::from(self.below(count)))
     }
 
     /// Two different numbers, below `count` where that is 2 or more.
-    pub fn two_below(&mut self, count: u8) -> (usize, usize)
+    pub(crate) fn two_below(&mut self, count: u8) -> (usize, usize)
         ensures there { λ r. ⌜ (2 ≤ count → (r .0 < count) × (r .1 < count)) ⌝ }
         ensures differ { λ r. ⌜ (r .0 ≡ r .1 → ⊥) ⌝ }
     {

@@ -18,17 +18,17 @@ pub trait Entries {
 }
 
 /// The error of a table that cannot be read.
-pub fn unreadable() -> io::Error {
+pub(crate) fn unreadable() -> io::Error {
     ErrorKind::InvalidData.into()
 }
 
 /// A field of a line, counted from 0, without the blanks around it.
-pub fn field(line: &str, at: usize) -> &str {
+pub(crate) fn field(line: &str, at: usize) -> &str {
     line.split('|').nth(at).unwrap_or("").trim()
 }
 
 /// The number of a column, or a number of columns.
-pub fn column(number: i32) -> io::Result<usize> {
+pub(crate) fn column(number: i32) -> io::Result<usize> {
     match usize::try_from(number) {
         Ok(column) => Ok(column),
         Err(_) => Err(unreadable()),
@@ -53,7 +53,7 @@ fn add_numbers(numbers: &mut Vec<i32>, text: &str) -> io::Result<()> {
 }
 
 /// The numbers of a field, with commas or blanks between them.
-pub fn numbers(heap: Global, field: &str) -> io::Result<Vec<i32>> {
+pub(crate) fn numbers(heap: Global, field: &str) -> io::Result<Vec<i32>> {
     let mut numbers = Vec::new(heap);
     for part in field.split(',') {
         add_numbers(&mut numbers, part)?;
@@ -62,7 +62,7 @@ pub fn numbers(heap: Global, field: &str) -> io::Result<Vec<i32>> {
 }
 
 /// The windows of a field: first and last, a comma, first and last.
-pub fn windows(heap: Global, field: &str) -> io::Result<Vec<Window>> {
+pub(crate) fn windows(heap: Global, field: &str) -> io::Result<Vec<Window>> {
     let mut windows = Vec::new(heap);
     for ends in numbers(heap, field)?.chunks(2) {
         let [first, last] = ends else {

@@ -32,7 +32,7 @@ pub const ASKED: [Window; 4] = [
     },
 ];
 
-pub fn tell(rt: &LibcRuntime) -> io::Result<()> {
+pub(crate) fn tell(rt: &LibcRuntime) -> io::Result<()> {
     println!(rt, "The service day of a dairy")?;
     telling::title(rt, "1. What the dairy asks for")?;
     println!(

@@ -39,7 +39,7 @@ fn trimmed(rt: &LibcRuntime, apart: &mut Apart, given: [Window; 2]) -> io::Resul
     telling::trimming(rt, "Apart", outcome, &VISITS, &windows)
 }
 
-pub fn tell(rt: &LibcRuntime) -> io::Result<()> {
+pub(crate) fn tell(rt: &LibcRuntime) -> io::Result<()> {
     telling::title(rt, "3. One crew")?;
     println!(
         rt,

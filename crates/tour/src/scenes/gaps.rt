@@ -32,7 +32,7 @@ const WAITS: [Link; 4] = [
     },
 ];
 
-pub fn tell(rt: &LibcRuntime) -> io::Result<()> {
+pub(crate) fn tell(rt: &LibcRuntime) -> io::Result<()> {
     telling::title(rt, "2. Gaps between visits")?;
     println!(
         rt,

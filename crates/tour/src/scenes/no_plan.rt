@@ -26,7 +26,7 @@ const WAITS: [Link; 1] = [Link {
     bound: -30,
 }];
 
-pub fn tell(rt: &LibcRuntime) -> io::Result<()> {
+pub(crate) fn tell(rt: &LibcRuntime) -> io::Result<()> {
     telling::title(rt, "5. A day without a plan")?;
     println!(
         rt,

@@ -50,7 +50,7 @@ const ASKED: [Window; 2] = [
     },
 ];
 
-pub fn tell(rt: &LibcRuntime) -> io::Result<()> {
+pub(crate) fn tell(rt: &LibcRuntime) -> io::Result<()> {
     telling::title(rt, "6. Refusals")?;
     let mut links = Links::fresh();
     telling::setting(rt, "Links", links.set(2, &WAITS))?;

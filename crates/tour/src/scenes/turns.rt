@@ -60,7 +60,7 @@ fn turn(
     telling::trimming(rt, "Apart", parted, &VISITS, windows)
 }
 
-pub fn tell(rt: &LibcRuntime) -> io::Result<()> {
+pub(crate) fn tell(rt: &LibcRuntime) -> io::Result<()> {
     telling::title(rt, "4. Two rules in turn")?;
     println!(
         rt,

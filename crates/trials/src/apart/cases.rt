@@ -73,7 +73,7 @@ gap 60000000            |  2 | 0 1 60000000 | 0 5, 2 4 | set, void
 gap 1                   |  2 | 0 1 1        | 0 5, 2 4 | set, leaves 0..5, 2..4
 ";
 
-pub fn check(checks: &mut Checks<'_>) -> io::Result<()> {
+pub(crate) fn check(checks: &mut Checks<'_>) -> io::Result<()> {
     let mut rule = Apart::fresh();
     checks.table(&mut rule, TRIMS)?;
     checks.table(&mut rule, FAR)?;

@@ -142,7 +142,7 @@ fn check_board(random: &mut Random, comparison: &mut Comparison<'_>) -> io::Resu
     comparison.board(set, &mut rule, &words, board.windows())
 }
 
-pub fn check(checks: &mut Checks<'_>) -> io::Result<()> {
+pub(crate) fn check(checks: &mut Checks<'_>) -> io::Result<()> {
     let mut random = Random::from_seed(SEED);
     let mut comparison = checks.comparison(Claim::Full);
     for _ in 0..BOARDS {

@@ -109,7 +109,7 @@ fn check_lengths(checks: &mut Checks<'_>, rule: &mut Links) -> io::Result<()> {
     )
 }
 
-pub fn check(checks: &mut Checks<'_>) -> io::Result<()> {
+pub(crate) fn check(checks: &mut Checks<'_>) -> io::Result<()> {
     let mut rule = Links::fresh();
     checks.table(&mut rule, TRIMS)?;
     checks.table(&mut rule, FAR)?;
