@@ -16,15 +16,12 @@ use Rattle.std.proofs.shelf.Ways.{tells}
 use Rattle.std.proofs.shelf.Signed.{ints}
 use Rattle.rules.specs.declared.fault.Fault.{Fault}
 use Rattle.rules.specs.declared.fault.Fault.the-variants.{ColumnCount, NoColumn, ListLength, ColumnTwice, OutOfRange}
-use Rattle.rules.specs.Refusals.{first-failing, Finds, unless, at-first}
-use Rattle.rules.proofs.Failing.{finds-first}
+use Rattle.rules.specs.Refusals.{first-failing, Finds, unless, at-first, counted, Counted}
+use Rattle.rules.proofs.Failing.{finds-first, some-none}
 use Rattle.differences.specs.declared.link.Link.{Link}
 use Rattle.differences.specs.Tables.{Near}
 use Rattle.differences.specs.Closing.{GoodLinks, link-at}
-use Rattle.differences.specs.Links.{All, present, two-columns, bounded, links-refusal, Wide, LinksJudged, not-wide, absent, too-many, one-column, unbounded, accepted}
-
-some-none : {f : Fault} → _≡_ {A = Option Fault} (Some f) None → ⊥
-some-none e = let z : _≡_ {A = ℕ} 0 1 = cc in omega arith
+use Rattle.differences.specs.Links.{All, present, two-columns, bounded, links-refusal, LinksJudged, not-wide, absent, too-many, one-column, unbounded, accepted}
 
 abbrev no-link : Link
 no-link = record { left = 0; right = 0; bound = pos 0 }
@@ -50,35 +47,35 @@ module _ (k : ℕ) (ls : List Link) where
   abbrev from-count : Option Fault
   from-count = unless (leb (length ls) 256) ListLength from-columns
 
-  judge-bounds : Wide k → All (present k) ls → length ls ≤ 256 → All two-columns ls → (o : Option ℕ) → Finds bounded ls o → LinksJudged k ls (at-first OutOfRange o None)
+  judge-bounds : Counted k → All (present k) ls → length ls ≤ 256 → All two-columns ls → (o : Option ℕ) → Finds bounded ls o → LinksJudged k ls (at-first OutOfRange o None)
   judge-bounds w p n t None f = accepted w p n t f
   judge-bounds w p n t (Some i) f = unbounded i w p n t f
 
-  judge-columns : Wide k → All (present k) ls → length ls ≤ 256 → (o : Option ℕ) → Finds two-columns ls o → LinksJudged k ls (at-first ColumnTwice o from-bounds)
+  judge-columns : Counted k → All (present k) ls → length ls ≤ 256 → (o : Option ℕ) → Finds two-columns ls o → LinksJudged k ls (at-first ColumnTwice o from-bounds)
   judge-columns w p n None f = judge-bounds w p n f (first-failing bounded ls) (finds-first bounded ls)
   judge-columns w p n (Some i) f = one-column i w p n f
 
-  judge-count : Wide k → All (present k) ls → (b : Bool) → leb (length ls) 256 ≡ b → LinksJudged k ls (unless b ListLength from-columns)
+  judge-count : Counted k → All (present k) ls → (b : Bool) → leb (length ls) 256 ≡ b → LinksJudged k ls (unless b ListLength from-columns)
   judge-count w p true e = judge-columns w p (leb-true _ _ e) (first-failing two-columns ls) (finds-first two-columns ls)
   judge-count w p false e = too-many w p (leb-false _ _ e)
 
-  judge-present : Wide k → (o : Option ℕ) → Finds (present k) ls o → LinksJudged k ls (at-first NoColumn o from-count)
+  judge-present : Counted k → (o : Option ℕ) → Finds (present k) ls o → LinksJudged k ls (at-first NoColumn o from-count)
   judge-present w None f = judge-count w f (leb (length ls) 256) refl
   judge-present w (Some i) f = absent i w f
 
-  judge-width : (b : Bool) → (leb 1 k && leb k 32) ≡ b → LinksJudged k ls (unless b ColumnCount (at-first NoColumn (first-failing (present k) ls) from-count))
+  judge-width : (b : Bool) → counted k ≡ b → LinksJudged k ls (unless b ColumnCount (at-first NoColumn (first-failing (present k) ls) from-count))
   judge-width true e = judge-present (leb-true _ _ (and-parts _ _ e .0), leb-true _ _ (and-parts _ _ e .1)) (first-failing (present k) ls) (finds-first (present k) ls)
   judge-width false e = not-wide (λ w. let some = w .0 in let few = w .1 in grind (arith, tells))
 
   -- the refusal says what its words say
   pub links-judged : LinksJudged k ls (links-refusal k ls)
   unfolding links-refusal
-  links-judged = judge-width (leb 1 k && leb k 32) refl
+  links-judged = judge-width (counted k) refl
 
   -- a number of columns outside 1 to 32 is refused first
   pub no-columns : (k < 1) ⊎ ((1 ≤ k) × (32 < k)) → links-refusal k ls ≡ Some ColumnCount
   unfolding links-refusal
-  no-columns h = let e : (leb 1 k && leb k 32) ≡ false = grind (arith, tells) in rw e
+  no-columns h = let e : counted k ≡ false = grind (arith, tells) in rw e
 
   good-links : All (present k) ls → All two-columns ls → All bounded ls → GoodLinks k ls
   good-links p t b =

@@ -13,7 +13,7 @@ use Rattle.std.specs.declared.option.Option.the-variants.{None, Some}
 use Rattle.rules.specs.declared.fault.Fault.{Fault}
 use Rattle.rules.specs.declared.fault.Fault.the-variants.{ColumnCount, NoColumn, ListLength, ColumnTwice, OutOfRange}
 use Rattle.rules.specs.Plans.{value-at}
-use Rattle.rules.specs.Refusals.{first-failing, First, unless, at-first, counted}
+use Rattle.rules.specs.Refusals.{first-failing, First, unless, at-first, counted, Counted}
 use Rattle.rules.specs.Meaning.{Scope, Meaning, tight-rule}
 use Rattle.differences.specs.declared.link.Link.{Link}
 
@@ -57,16 +57,12 @@ links-refusal k ls =
 abbrev pub All : (Link → Bool) → List Link → Type 0
 All test ls = Every (λ l. test l ≡ true) ls 0 (length ls)
 
--- the number of columns of a board
-abbrev pub Wide : ℕ → Type 0
-Wide k = (1 ≤ k) × (k ≤ 32)
-
 -- the same in words: the number of columns, then the first link that names a column that is not there, then too many links, then
 -- the first link of a column with itself, then the first bound out of range, then none
 pub data LinksJudged (k : ℕ) (ls : List Link) : Option Fault → Type 0 where
-  not-wide : (Wide k → ⊥) → LinksJudged k ls (Some ColumnCount)
-  absent : (i : ℕ) → Wide k → First (present k) ls i → LinksJudged k ls (Some (NoColumn i))
-  too-many : Wide k → All (present k) ls → 256 < length ls → LinksJudged k ls (Some ListLength)
-  one-column : (i : ℕ) → Wide k → All (present k) ls → length ls ≤ 256 → First two-columns ls i → LinksJudged k ls (Some (ColumnTwice i))
-  unbounded : (i : ℕ) → Wide k → All (present k) ls → length ls ≤ 256 → All two-columns ls → First bounded ls i → LinksJudged k ls (Some (OutOfRange i))
-  accepted : Wide k → All (present k) ls → length ls ≤ 256 → All two-columns ls → All bounded ls → LinksJudged k ls None
+  not-wide : (Counted k → ⊥) → LinksJudged k ls (Some ColumnCount)
+  absent : (i : ℕ) → Counted k → First (present k) ls i → LinksJudged k ls (Some (NoColumn i))
+  too-many : Counted k → All (present k) ls → 256 < length ls → LinksJudged k ls (Some ListLength)
+  one-column : (i : ℕ) → Counted k → All (present k) ls → length ls ≤ 256 → First two-columns ls i → LinksJudged k ls (Some (ColumnTwice i))
+  unbounded : (i : ℕ) → Counted k → All (present k) ls → length ls ≤ 256 → All two-columns ls → First bounded ls i → LinksJudged k ls (Some (OutOfRange i))
+  accepted : Counted k → All (present k) ls → length ls ≤ 256 → All two-columns ls → All bounded ls → LinksJudged k ls None

@@ -19,6 +19,10 @@ use Rattle.rules.specs.Plans.{lawful, all-lawful}
 use Rattle.std.specs.declared.result.Result.the-variants.{Ok, Err}
 use Rattle.rules.specs.Refusals.{first-failing, First, Finds, unless, at-first, answer, window-refusal, Judged, unlawful, wrong-count, accepted}
 
+-- something is not nothing
+pub some-none : {X : Type 0} {x : X} → _≡_ {A = Option X} (Some x) None → ⊥
+some-none e = let z : _≡_ {A = ℕ} 0 1 = cc in omega arith
+
 module _ {X : Type 0} (test : X → Bool) where
   pub every-cons : (x : X) (xs : List X) (n : ℕ) → test x ≡ true → Every (λ y. test y ≡ true) xs 0 n → Every (λ y. test y ≡ true) (x ∷ xs) 0 (suc n)
   every-cons x xs n e f zero d l h = e

@@ -23,6 +23,7 @@ pub fn trim<R: Rule>(rule: &mut R, windows: &mut [Window]) -> Result<Verdict, Fa
     ensures rests { λ r. ⌜ Rests (R·Rule .meaning (now (rule .entry))) (now (windows .entry)) r (now (windows .exit)) ⌝ }
     ensures enumeration { λ r. ⌜ ((A : List ℤ → Bool) (ws : List Window) → Enumerates A ws) ⌝ }
 {
+    // Its contract says that the rule has a column, which the equation needs.
     let _ = rule.columns();
     rule.narrow(windows)
 }

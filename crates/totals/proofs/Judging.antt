@@ -17,14 +17,11 @@ use Rattle.std.proofs.shelf.Ways.{tells}
 use Rattle.rules.specs.declared.fault.Fault.{Fault}
 use Rattle.rules.specs.declared.fault.Fault.the-variants.{ColumnCount, NoColumn, ListLength, ColumnTwice}
 use Rattle.rules.specs.Refusals.{first-failing, Finds, unless, at-first, counted, Counted}
-use Rattle.rules.proofs.Failing.{finds-first}
+use Rattle.rules.proofs.Failing.{finds-first, some-none}
 use Rattle.totals.specs.Sums.{there, first-again, some-few, sum-refusal, AllThere, Distinct, SumJudged, no-width, absent, wrong-length, twice, accepted}
 use Rattle.totals.specs.Cuts.{Columns, column-at}
 use Rattle.totals.proofs.Again.{finds-again, found-again}
 use Rattle.totals.proofs.Again as again
-
-some-none : {f : Fault} → _≡_ {A = Option Fault} (Some f) None → ⊥
-some-none e = let z : _≡_ {A = ℕ} 0 1 = cc in omega arith
 
 -- what is known of a total and summands that are not refused
 pub record Taken (k t : ℕ) (ss : List ℕ) : Type 0 where

@@ -19,7 +19,7 @@ use Rattle.std.proofs.shelf.Ways.{tells}
 use Rattle.rules.specs.declared.fault.Fault.{Fault}
 use Rattle.rules.specs.declared.fault.Fault.the-variants.{ColumnCount, NoColumn, ListLength, ColumnTwice, OutOfRange}
 use Rattle.rules.specs.Refusals.{first-failing, Finds, unless, at-first, counted, Counted}
-use Rattle.rules.proofs.Failing.{finds-first, none-found}
+use Rattle.rules.proofs.Failing.{finds-first, none-found, some-none}
 use Rattle.differences.specs.declared.link.Link.{Link}
 use Rattle.differences.specs.Links.{links-refusal, present, two-columns, bounded, All}
 use Rattle.rings.specs.Rings.{RingsAnswer, RingsChecked}
@@ -29,9 +29,6 @@ use Rattle.totals.specs.Cuts.{Columns, column-at}
 use Rattle.totals.specs.Linked.{other-columns, link-entry, first-entry, first-absent, first-repeated, fits, linked-refusal, Named, Fits, LinkedJudged, no-width, absent, link-absent, wrong-length, twice, link-twice, unbounded, accepted, LinkedChecked}
 use Rattle.totals.proofs.Again.{finds-again, found-again}
 use Rattle.totals.proofs.Again as again
-
-some-none : {X : Type 0} {f : X} → _≡_ {A = Option X} (Some f) None → ⊥
-some-none e = let z : _≡_ {A = ℕ} 0 1 = cc in omega arith
 
 no-false : _≡_ {A = Bool} false true → ⊥
 no-false e = let z : _≡_ {A = ℕ} 0 1 = cc in omega arith

@@ -20,7 +20,7 @@ use Rattle.rules.specs.declared.window.Window.{Window}
 use Rattle.rules.specs.Plans.{lies, all-lawful}
 use Rattle.rules.specs.Refusals.{answer, window-refusal}
 use Rattle.rules.specs.Meaning.{Meaning, tight-rule, Narrowed}
-use Rattle.rules.proofs.Failing.{answer-ok, taken}
+use Rattle.rules.proofs.Failing.{answer-ok, taken, some-none}
 use Rattle.rules.proofs.Setting.{none-if-ok, fresh-narrowed, taken-by, set-narrowed}
 use Rattle.differences.specs.declared.link.Link.{Link}
 use Rattle.differences.specs.declared.distances.Distances.{Distances}
@@ -42,9 +42,6 @@ use Rattle.totals.proofs.LinkedJudging.{links-accepted, sum-accepted}
 use Rattle.totals.proofs.LinkedMeeting.{linked-meets}
 use Rattle.totals.proofs.Rows.{row-taken, held-means, width-means}
 use Rattle.totals.proofs.Supporting.{total-narrowed}
-
-pub some-none : {f : Fault} → _≡_ {A = Option Fault} (Some f) None → ⊥
-some-none e = let z : _≡_ {A = ℕ} 0 1 = cc in omega arith
 
 ok-err : {f : Fault} → _≡_ {A = Result (Unit {0}) Fault} (Ok tt) (Err f) → ⊥
 ok-err e = let z : _≡_ {A = ℕ} 0 1 = cc in omega arith

@@ -21,6 +21,7 @@ use Rattle.rules.specs.declared.fault.Fault.the-variants.{ListLength}
 use Rattle.rules.specs.Plans.{all-lawful}
 use Rattle.rules.specs.Refusals.{unless, answer, window-refusal, Counted}
 use Rattle.rules.specs.Meaning.{Scope, Meaning, tight-rule, meaning-if, fresh-rule, Narrowed}
+use Rattle.rules.proofs.Failing.{some-none}
 use Rattle.rules.proofs.Failing as failing
 use Rattle.rules.proofs.Setting.{none-if-ok, set-if-none, counted-if, fresh-narrowed, taken-by, set-narrowed}
 use Rattle.totals.specs.declared.terms.Terms.{Terms}
@@ -29,9 +30,6 @@ use Rattle.totals.specs.Terms.{row-summands, row-refusal, row-width, width-if,
 use Rattle.totals.specs.Cuts.{Columns, TotalOutcome}
 use Rattle.totals.proofs.Supporting.{Meets, total-narrowed}
 use Rattle.totals.proofs.Judging.{Taken, sum-taken}
-
-some-none : {f : Fault} → _≡_ {A = Option Fault} (Some f) None → ⊥
-some-none e = let z : _≡_ {A = ℕ} 0 1 = cc in omega arith
 
 -- a row that was set holds what it was given
 pub held : (row : Terms) (k t : ℕ) (ss : List ℕ) → row .columns ≡ k → row .total ≡ t → row .count ≡ length ss → take (row .count) (row .summands) ≡ ss → sum-refusal k t ss ≡ None → Holds row k t ss

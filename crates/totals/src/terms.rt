@@ -29,9 +29,7 @@ fn stored(summands: &[usize]) -> [usize; 31]
     ensures { λ r. ⌜ take (length (now (summands .entry))) r ≡ now (summands .entry) ⌝ }
 {
     let mut all = [0; MOST_SUMMANDS];
-    for (i, column) in summands.iter().enumerate() {
-        all[i] = *column;
-    }
+    all[0..summands.len()].copy_from_slice(summands);
     all
 }
 

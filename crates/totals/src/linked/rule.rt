@@ -36,9 +36,7 @@ fn stored(links: &[Link]) -> [Link; 256]
     ensures { λ r. ⌜ take (length (now (links .entry))) r ≡ now (links .entry) ⌝ }
 {
     let mut all = no_links();
-    for (i, link) in links.iter().enumerate() {
-        all[i] = *link;
-    }
+    all[0..links.len()].copy_from_slice(links);
     all
 }
 
