@@ -2,6 +2,8 @@
 //!
 //! `bench COUNT` makes so many trims of each board, and `bench COUNT times` prints how long one of them takes on the average.
 
+#![tactic(auto)]
+
 mod boards;
 mod measure;
 

@@ -1,5 +1,7 @@
 //! Rules about differences of columns: links over a closed table of distances, and two columns apart.
 
+#![tactic(auto)]
+
 pub mod apart;
 pub mod boards;
 pub mod check;

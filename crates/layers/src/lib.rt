@@ -1,5 +1,7 @@
 //! Rules made of rules.
 
+#![tactic(auto)]
+
 mod asking;
 pub mod both;
 pub mod each;

@@ -1,6 +1,8 @@
 //! The vocabulary of visits: values, windows and plans, the faults that a call can answer,
 //! and the interface that every rule keeps.
 
+#![tactic(auto)]
+
 pub mod check;
 pub mod fault;
 pub mod narrowing;

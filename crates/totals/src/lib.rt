@@ -1,5 +1,7 @@
 //! Sums of columns.
 
+#![tactic(auto)]
+
 mod chain;
 pub mod check;
 mod cutting;

@@ -1,5 +1,7 @@
 //! The service day of a dairy, told step by step: what is asked, what the rules say, and what they leave.
 
+#![tactic(auto)]
+
 mod clock;
 mod scenes;
 mod telling;

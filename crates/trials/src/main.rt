@@ -2,6 +2,8 @@
 //!
 //! Whatever comes out otherwise than expected is printed with its board, counted, and ends the program with an error.
 
+#![tactic(auto)]
+
 mod apart;
 mod board;
 mod checks;
