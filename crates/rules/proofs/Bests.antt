@@ -1,10 +1,10 @@
 -- The first plan with the smallest goal is the best one, and the only best one.
-use Rattle.std.proofs.Common.{◌≡◌, ℕ, Bool, true, false, cond, ◌⊎◌, List, [], ◌∷◌, ℤ, ◌≤ℤ◌, ◌<ℤ◌, Some, None, Option, sym, refl, ap, ◌∙◌, subst, inl, inr, ⊎_elim, arith}
+use Rattle.std.proofs.Common.{◌≡◌, ℕ, Bool, true, false, cond, ◌⊎◌, List, [], ◌∷◌, ℤ, ◌≤ℤ◌, ◌<ℤ◌, Some, None, Option, refl, ap, inl, inr, ⊎_elim, arith}
 use lib.Signed.{le_z}
 use Rattle.std.proofs.lemmas.Int.{ints, by_lt_z}
 use Rattle.rules.specs.declared.window.Window.{Window}
-use Rattle.rules.specs.Plans.{value_at, lies, NoPlan}
-use Rattle.rules.specs.Order.{Earlier, Beats, Best}
+use Rattle.rules.specs.Plans.{value_at}
+use Rattle.rules.specs.Order.{Earlier, Beats}
 use Rattle.rules.specs.Enumeration.{Among, better, best_of, best, allowed, Seeks}
 use Rattle.rules.proofs.Among.{Ordered}
 use Rattle.rules.proofs.Plans.{allowed_in, in_allowed, allowed_ordered}

@@ -1,12 +1,10 @@
 -- The hull of a set of plans is what the set leaves of the windows, and the only such windows.
-use Rattle.std.proofs.Common.{◌≡◌, ℕ, zero, suc, ◌<◌, ◌≤◌, Bool, true, false, cond, ◌&&◌, ◌⊎◌, List, [], ◌∷◌, ◌++◌, map, length, ℤ, pos, negsuc, ◌+ℤ◌, ◌-ℤ◌, ◌≤ℤ◌, ◌<ℤ◌, Some, None, Option, sym, refl, ap, ◌∙◌, subst, inl, inr, ⊎_elim, arith}
-use lib.Signed.{le_z}
+use Rattle.std.proofs.Common.{◌≡◌, ℕ, zero, suc, ◌<◌, Bool, true, ◌⊎◌, List, [], ◌∷◌, map, length, ℤ, ◌≤ℤ◌, Some, None, Option, sym, refl, ap, ◌∙◌, inl, inr, ⊎_elim, arith}
 use Rattle.std.specs.Int.{int_max, int_min}
 use Rattle.std.proofs.lemmas.Int.{ints, clamps, by_lt_z}
 use Rattle.std.proofs.lemmas.List.{ext_get_or, length-map}
-use Rattle.std.proofs.lemmas.Bool.{cases_cond}
 use Rattle.rules.specs.declared.window.Window.{Window}
-use Rattle.rules.specs.Plans.{lies, inside, value_at, window_at, Keeps, NoPlan, Supported, Trimmed}
+use Rattle.rules.specs.Plans.{lies, inside, value_at, window_at, Keeps, NoPlan, Trimmed}
 use Rattle.rules.specs.Enumeration.{Among, point, widened, cover, hull_of, hull, allowed, Left, Leaves}
 use Rattle.rules.proofs.Windows.{lies-length, lies_at, inside-length, inside_at, lies-inside}
 use Rattle.rules.proofs.Plans.{allowed_in, in_allowed}

@@ -1,8 +1,8 @@
 -- One plan only is the best, and it goes by the plans in the windows alone.
-use Rattle.std.proofs.Common.{◌≡◌, ℕ, Bool, true, ◌⊎◌, List, [], ◌∷◌, ℤ, ◌<ℤ◌, sym, refl, ap, ◌∙◌, inl, inr, arith}
+use Rattle.std.proofs.Common.{◌≡◌, ℕ, Bool, true, ◌⊎◌, List, [], ◌∷◌, ℤ, sym, ◌∙◌, inl, inr, arith}
 use Rattle.std.proofs.lemmas.Int.{ints}
 use Rattle.rules.specs.declared.window.Window.{Window}
-use Rattle.rules.specs.Plans.{value_at, lies}
+use Rattle.rules.specs.Plans.{lies}
 use Rattle.rules.specs.Order.{Earlier, Beats, Best}
 
 never_both : (x y : List ℤ) → Earlier x y → Earlier y x → ⊥

@@ -1,13 +1,13 @@
 -- Windows and plans, column by column.
-use Rattle.std.proofs.Common.{◌≡◌, ℕ, zero, suc, ◌+◌, ◌-◌, ◌*◌, ◌<◌, ◌≤◌, Bool, true, false, ◌&&◌, ◌⊎◌, List, [], ◌∷◌, ◌++◌, map, length, get_or, take, drop, set, ℤ, pos, negsuc, ◌≤ℤ◌, ◌<ℤ◌, sym, refl, ap, ◌∙◌, subst, inl, inr, ⊎_elim, arith, rules}
+use Rattle.std.proofs.Common.{◌≡◌, ℕ, zero, suc, ◌<◌, true, ◌&&◌, List, [], ◌∷◌, map, length, set, ℤ, pos, negsuc, ◌≤ℤ◌, sym, refl, ap, ◌∙◌, arith, rules}
 use lib.Signed.{le_z}
-use Rattle.std.proofs.lemmas.Bool.{and_parts, and_from, both_ways}
+use Rattle.std.proofs.lemmas.Bool.{and_parts, and_from}
 use Rattle.std.proofs.lemmas.Int.{ints}
 use Rattle.rules.specs.declared.window.Window.{Window}
 use Rattle.std.specs.List.{range_with_len}
 use Rattle.std.proofs.lemmas.List.{ext_get_or}
 use Rattle.std.proofs.lemmas.List.FromFn.{length-map-range_with_len, get_or-map-range_with_len}
-use Rattle.rules.specs.Plans.{is_value, lawful, all_lawful, window_at, value_at, lies, inside, Single, firsts, NoPlan}
+use Rattle.rules.specs.Plans.{lawful, all_lawful, window_at, value_at, lies, inside, Single, firsts}
 
 pub lawful_at : (ws : List Window) (i : ℕ) → all_lawful ws ≡ true → i < length ws → lawful (window_at ws i) ≡ true
 lawful_at [] i h l = absurd (omega arith)

@@ -1,5 +1,5 @@
 -- What follows for every rule from the outcome of narrow.
-use Rattle.std.specs.Prelude.{◌≡◌, Bool, true, false, List, Some, None, Ok, Err, Option, Result}
+use Rattle.std.specs.Prelude.{◌≡◌, true, List, Some, None, Ok, Err, Option, Result}
 use Rattle.rules.specs.declared.window.Window.{Window}
 use Rattle.rules.specs.declared.fault.Fault.{Fault}
 use Rattle.rules.specs.declared.verdict.Verdict.{Verdict}

@@ -1,6 +1,5 @@
-use Rattle.std.proofs.Common.{◌≡◌, sym, ap, ◌∙◌, rules}
-use Rattle.std.proofs.lemmas.Bool.{ne_eqb, eq-eqb}
-use Rattle.rules.specs.Refusals.{window_refusal, first_failing}
+use Rattle.std.proofs.Common.{rules}
+use Rattle.rules.specs.Refusals.{window_refusal}
 use Rattle.rules.proofs.Failing.{judged}
 use Rattle.rules.proofs.check.check_windows.Goals as goal
 

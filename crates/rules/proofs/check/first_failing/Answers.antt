@@ -1,4 +1,4 @@
-use Rattle.std.proofs.Common.{◌≡◌, true, false, sym, arith}
+use Rattle.std.proofs.Common.{◌≡◌, true, false, sym}
 use Rattle.std.proofs.lemmas.List.Elements.{at_read, AllWithin-more, AllWithin-upto}
 use Rattle.rules.proofs.Failing.{first_found, none_found}
 use Rattle.rules.proofs.check.first_failing.Goals as goal
