@@ -1,5 +1,5 @@
 -- Windows cut to what distances leave of them: every allowed plan stays, and every value left has one.
-use Rattle.std.proofs.Common.{◌≡◌, ℕ, ◌+◌, ◌<◌, ◌≤◌, true, List, length, set, ℤ, pos, ◌≤ℤ◌, ◌<ℤ◌, Ok, sym, refl, ◌∙◌, subst, arith, get_or-set_other, get_or-set_same}
+use Rattle.std.proofs.Common.{◌≡◌, ℕ, ◌+◌, ◌<◌, true, List, length, set, ℤ, pos, ◌≤ℤ◌, ◌<ℤ◌, Ok, sym, refl, ◌∙◌, subst, arith, get_or-set_other, get_or-set_same}
 use native.Mathlib.Decide.{ℕ_discrete}
 use Rattle.std.proofs.lemmas.List.{take_all}
 use Rattle.std.proofs.lemmas.Int.{ints}

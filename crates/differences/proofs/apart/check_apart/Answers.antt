@@ -16,9 +16,9 @@ pub returns-then-one-other : goal.returns-then-one-other
 unfolding apart_refusal
 returns-then-one-other c = grind (arith, nat_tests)
 
-pub returns-then-gap-lt-LEAST-GAP : goal.returns-then-gap-lt-LEAST-GAP
+pub returns-then-gap-lt-LEAST_GAP : goal.returns-then-gap-lt-LEAST_GAP
 unfolding apart_refusal
-returns-then-gap-lt-LEAST-GAP c = grind (arith, ints, nat_tests)
+returns-then-gap-lt-LEAST_GAP c = grind (arith, ints, nat_tests)
 
 pub returns : goal.returns
 unfolding apart_refusal

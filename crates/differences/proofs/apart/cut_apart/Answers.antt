@@ -5,8 +5,8 @@ use Rattle.rules.proofs.Windows.{lawful_at}
 use Rattle.differences.proofs.Columns.{columns_left, no_plan}
 use Rattle.differences.proofs.apart.cut_apart.Goals as goal
 
-pub keep-apart-requires : goal.keep-apart-requires
-keep-apart-requires c =
+pub keep_apart-requires : goal.keep_apart-requires
+keep_apart-requires c =
     record {
       lawful = (lawful_at _ _ c.requires.lawful c.requires.there.0, lawful_at _ _ c.requires.lawful c.requires.there.1);
       range = (omega (arith, ints, c.requires.range), omega (arith, ints, c.requires.range));

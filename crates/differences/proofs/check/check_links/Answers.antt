@@ -12,17 +12,17 @@ pub returns-in-Some : goal.returns-in-Some
 unfolding links_refusal
 returns-in-Some c = record { value = search rules; law = links_judged _ _ }
 
-pub returns-then-links-gt-MOST-LINKS : goal.returns-then-links-gt-MOST-LINKS
+pub returns-then-links-gt-MOST_LINKS : goal.returns-then-links-gt-MOST_LINKS
 unfolding links_refusal
-returns-then-links-gt-MOST-LINKS c = record { value = search rules; law = links_judged _ _ }
+returns-then-links-gt-MOST_LINKS c = record { value = search rules; law = links_judged _ _ }
 
-pub returns-in-Some-first-failing : goal.returns-in-Some-first-failing
+pub returns-in-Some-first_failing : goal.returns-in-Some-first_failing
 unfolding links_refusal
-returns-in-Some-first-failing c = record { value = search rules; law = links_judged _ _ }
+returns-in-Some-first_failing c = record { value = search rules; law = links_judged _ _ }
 
-pub returns-in-Some-first-failing-2 : goal.returns-in-Some-first-failing-2
+pub returns-in-Some-first_failing-2 : goal.returns-in-Some-first_failing-2
 unfolding links_refusal
-returns-in-Some-first-failing-2 c = record { value = search rules; law = links_judged _ _ }
+returns-in-Some-first_failing-2 c = record { value = search rules; law = links_judged _ _ }
 
 pub returns : goal.returns
 unfolding links_refusal

@@ -6,15 +6,15 @@ use Rattle.differences.specs.Ends.{first_at, last_at}
 use Rattle.differences.proofs.Leaving.{first_more, last_more}
 use Rattle.differences.proofs.trim.cut.Goals as goal
 
-pub overflow-sub-window : goal.overflow-sub-window
-overflow-sub-window g c =
+pub overflow_sub-window : goal.overflow_sub-window
+overflow_sub-window g c =
     let j = c.loop-j.j in
     let ws = c.args.windows.now in
     let ends : Ends (window_at ws j) = lawful_ends (window_at ws j) (lawful_at ws j c.requires.lawful c.loop-j-test.true) in
     omega (arith, ints, ends.low, ends.high, ends.order, c.requires.closed.near c.args.i j c.requires.there c.loop-j-test.true, c.between.ensures)
 
-pub overflow-add-window : goal.overflow-add-window
-overflow-add-window g c =
+pub overflow_add-window : goal.overflow_add-window
+overflow_add-window g c =
     let j = c.loop-j.j in
     let ws = c.args.windows.now in
     let ends : Ends (window_at ws j) = lawful_ends (window_at ws j) (lawful_at ws j c.requires.lawful c.loop-j-test.true) in

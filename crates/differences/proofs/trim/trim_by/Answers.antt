@@ -3,12 +3,12 @@ use Rattle.differences.specs.Tables.{Closed}
 use Rattle.differences.proofs.Cutting.{trim_taken, trim_voids, trim_opens}
 use Rattle.differences.proofs.trim.trim_by.Goals as goal
 
-pub cut-all-requires : goal.cut-all-requires
-cut-all-requires g c =
+pub cut_all-requires : goal.cut_all-requires
+cut_all-requires g c =
     let vs = c.args.windows.now in
     let k = g.D.Distance.width c.args.distances.now in
     let d = g.D.Distance.distance c.args.distances.now in
-    let known = trim_taken k c.columns.result vs c.columns.ensures.value c.in-ok-check-windows.ensures.value in
+    let known = trim_taken k c.columns.result vs c.columns.ensures.value c.in_ok-check_windows.ensures.value in
     record {
       closed = subst (λ (n : ℕ). Closed n d) (sym known.1) c.columns.ensures.closed;
       lawful = known.0;
@@ -18,7 +18,7 @@ cut-all-requires g c =
 pub copy-requires : goal.copy-requires
 copy-requires g c =
     let k = g.D.Distance.width c.args.distances.now in
-    let known = trim_taken k c.columns.result c.args.windows.now c.columns.ensures.value c.in-ok-check-windows.ensures.value in
+    let known = trim_taken k c.columns.result c.args.windows.now c.columns.ensures.value c.in_ok-check_windows.ensures.value in
     record { few = omega (arith, known.1, c.columns.ensures.value, c.columns.ensures.few.1) }
 
 pub returns-in-None : goal.returns-in-None
@@ -26,7 +26,7 @@ returns-in-None g c =
     let vs = c.args.windows.now in
     let k = g.D.Distance.width c.args.distances.now in
     let d = g.D.Distance.distance c.args.distances.now in
-    let known = trim_taken k c.columns.result vs c.columns.ensures.value c.in-ok-check-windows.ensures.value in
+    let known = trim_taken k c.columns.result vs c.columns.ensures.value c.in_ok-check_windows.ensures.value in
     trim_voids k d vs known.0 known.1 c.in-None.ensures
 
 pub returns-in-Some : goal.returns-in-Some
@@ -34,5 +34,5 @@ returns-in-Some g c =
     let vs = c.args.windows.now in
     let k = g.D.Distance.width c.args.distances.now in
     let d = g.D.Distance.distance c.args.distances.now in
-    let known = trim_taken k c.columns.result vs c.columns.ensures.value c.in-ok-check-windows.ensures.value in
+    let known = trim_taken k c.columns.result vs c.columns.ensures.value c.in_ok-check_windows.ensures.value in
     trim_opens k d vs c.in-Some.left c.copy.new.windows c.columns.ensures.closed known.0 known.1 c.copy.auto.windows c.copy.ensures c.in-Some.ensures

@@ -6,16 +6,16 @@ use Rattle.rules.proofs.Setting.{none_if_ok}
 use Rattle.differences.proofs.Means.{fresh_narrowed, taken_by, set_narrowed}
 use Rattle.differences.proofs.apart.ApartRule.narrow.Goals as goal
 
-pub returns-then-not-is-set : goal.returns-then-not-is-set
-returns-then-not-is-set c =
-    let ok = answer_ok _ (sym c.in-ok-check-windows.ensures.value) in
-    record { same = refl; outcome = fresh_narrowed c.args.self.now c.width.result c.args.windows.now c.width.ensures ok (sym c.if-not-is-set.ensures) }
+pub returns-then-not-is_set : goal.returns-then-not-is_set
+returns-then-not-is_set c =
+    let ok = answer_ok _ (sym c.in_ok-check_windows.ensures.value) in
+    record { same = refl; outcome = fresh_narrowed c.args.self.now c.width.result c.args.windows.now c.width.ensures ok (sym c.if-not-is_set.ensures) }
 
-pub cut-apart-requires : goal.cut-apart-requires
-cut-apart-requires c =
+pub cut_apart-requires : goal.cut_apart-requires
+cut_apart-requires c =
     let fits : SFits w32 c.args.self.now.gap = search rules in
-    let is_set = sym c.if-not-is-set.ensures in
-    let ok = answer_ok _ (sym c.in-ok-check-windows.ensures.value) in
+    let is_set = sym c.if-not-is_set.ensures in
+    let ok = answer_ok _ (sym c.in_ok-check_windows.ensures.value) in
     let row = has_set _ _ _ _ (none_if_ok _ is_set) in
     let given = taken _ _ (taken_by c.args.self.now c.width.result c.args.windows.now c.width.ensures ok is_set) in
     record {
@@ -28,10 +28,10 @@ cut-apart-requires c =
 pub returns : goal.returns
 returns c =
     let fits : SFits w32 c.args.self.now.gap = search rules in
-    let ok = answer_ok _ (sym c.in-ok-check-windows.ensures.value) in
+    let ok = answer_ok _ (sym c.in_ok-check_windows.ensures.value) in
     record {
       same = refl;
       outcome =
-          set_narrowed c.args.self.now c.width.result c.args.windows.now c.width.ensures ok (sym c.if-not-is-set.ensures) c.cut-apart.result c.cut-apart.new.windows
-          (simp to_z-of_z at c.cut-apart.ensures.left) c.cut-apart.ensures.stays;
+          set_narrowed c.args.self.now c.width.result c.args.windows.now c.width.ensures ok (sym c.if-not-is_set.ensures) c.cut_apart.result c.cut_apart.new.windows
+          (simp to_z-of_z at c.cut_apart.ensures.left) c.cut_apart.ensures.stays;
     }

@@ -5,8 +5,8 @@ use Rattle.differences.proofs.Judging.{fresh_taken}
 use Rattle.differences.proofs.Linking.{table_of}
 use Rattle.differences.proofs.distances.Distances.fresh.Goals as goal
 
-pub invariant-of-result : goal.invariant-of-result
-invariant-of-result c = (omega arith, (omega arith, (∣ one_closed _ c.unlinked-rows.ensures ∣₁, tt)))
+pub invariant_of-result : goal.invariant_of-result
+invariant_of-result c = record { some = omega arith; few = omega arith; closed = ∣ one_closed _ c.unlinked-rows.ensures ∣₁ }
 
 pub returns : goal.returns
 returns c =

@@ -8,11 +8,11 @@ use Rattle.differences.proofs.Judging.{links_taken, links_judged}
 use Rattle.differences.proofs.Linking.{made_says}
 use Rattle.differences.proofs.links.Links.set.Goals as goal
 
-pub returns-in-err-distances : goal.returns-in-err-distances
-returns-in-err-distances c =
-    let p = err_from_is_err_and c.from-residual.result c.from-residual.ensures.1 in
+pub returns-in_err-distances : goal.returns-in_err-distances
+returns-in_err-distances c =
+    let p = err_from_is_err_and c.from_residual.result c.from_residual.ensures.1 in
     record {
-      value = p.1 ∙ (ap (λ (f : Fault). Err f) p.2 ∙ ap answer (sym c.in-err-distances.ensures));
+      value = p.1 ∙ (ap (λ (f : Fault). Err f) p.2 ∙ ap answer (sym c.in_err-distances.ensures));
       law = links_judged _ _;
       taken = λ e. let z : ◌≡◌ {A = ℕ} 0 1 = cc in absurd (omega arith);
       refused = λ f e. refl;
@@ -20,18 +20,23 @@ returns-in-err-distances c =
 
 pub stored-links-requires : goal.stored-links-requires
 stored-links-requires c =
-    let says = made_says c.args.columns c.args.links.now c.in-ok-distances.distances c.in-ok-distances.ensures in
+    let says = made_says c.args.columns c.args.links.now c.in_ok-distances.distances c.in_ok-distances.ensures in
     (links_taken c.args.columns c.args.links.now says.accepted).fit
 
-pub invariant-of-self : goal.invariant-of-self
-invariant-of-self c =
-    let says = made_says c.args.columns c.args.links.now c.in-ok-distances.distances c.in-ok-distances.ensures in
+pub invariant_of-self : goal.invariant_of-self
+invariant_of-self c =
+    let says = made_says c.args.columns c.args.links.now c.in_ok-distances.distances c.in_ok-distances.ensures in
     let known = links_taken c.args.columns c.args.links.now says.accepted in
-    (known.some, (known.few, (says.wide, ((λ x there. ap (λ (ls : List Link). all_linked ls x) c.stored-links.ensures ∙ says.same x there), tt))))
+    record {
+      some = known.some;
+      few = known.few;
+      wide = says.wide;
+      same = λ x there. ap (λ (ls : List Link). all_linked ls x) c.stored-links.ensures ∙ says.same x there;
+    }
 
 pub returns : goal.returns
 returns c =
-    let says = made_says c.args.columns c.args.links.now c.in-ok-distances.distances c.in-ok-distances.ensures in
+    let says = made_says c.args.columns c.args.links.now c.in_ok-distances.distances c.in_ok-distances.ensures in
     record {
       value = ap answer (sym says.accepted);
       law = links_judged _ _;
