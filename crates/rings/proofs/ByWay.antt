@@ -1,5 +1,5 @@
 -- The way by another column.
-use Rattle.std.proofs.Common.{◌≡◌, ℤ, pos, ◌+ℤ◌, Some, None, Option, sym, refl, ap, ◌∙◌, subst}
+use Rattle.std.proofs.Common.{◌≡◌, ℤ, ◌+ℤ◌, Some, Option, sym, ◌∙◌, subst}
 use Rattle.rings.specs.Tables.{shorter, joined, Moderate}
 
 pub by_way_is : (known leg rest r : Option ℤ) (x y s : ℤ) → leg ≡ Some x → rest ≡ Some y → s ≡ x +ℤ y → r ≡ shorter known (Some s) → r ≡ shorter known (joined leg rest)

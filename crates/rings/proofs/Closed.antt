@@ -1,13 +1,12 @@
 -- What a closed table of walks tells of rings and ties.
-use Rattle.std.proofs.Common.{◌≡◌, ℕ, zero, suc, ◌+◌, ◌<◌, ◌≤◌, Bool, true, false, not, ◌&&◌, ◌||◌, eqb, ◌⊎◌, List, [], ◌∷◌, ◌++◌, ℤ, pos, negsuc, ◌+ℤ◌, nat_abs, ◌≤ℤ◌, ◌<ℤ◌, is_some as option_is_some, Some, None, Option, sym, refl, ap, ◌∙◌, subst, inl, inr, ⊎_elim, add-one, arith}
-use lib.Signed.{lt_z}
+use Rattle.std.proofs.Common.{◌≡◌, ℕ, zero, suc, ◌+◌, ◌<◌, Bool, true, false, not, ◌&&◌, eqb, List, [], ◌∷◌, ℤ, pos, ◌+ℤ◌, nat_abs, ◌≤ℤ◌, ◌<ℤ◌, is_some as option_is_some, Some, None, Option, sym, refl, ap, ◌∙◌, subst, ⊎_elim, add-one, arith}
 use Rattle.std.specs.List.{ContainsAt as Has}
-use Rattle.std.proofs.lemmas.Int.{ints, clamps, by_lt_z}
-use Rattle.std.proofs.lemmas.Bool.{cases_eq, eqb-true, eq-eqb, or_cases, or_left, or_right, or_from, and_parts, and_from, cases_Bool, both_ways, not-true, not_from_false, eqb-false, ne_eqb}
+use Rattle.std.proofs.lemmas.Int.{ints, by_lt_z}
+use Rattle.std.proofs.lemmas.Bool.{cases_eq, eqb-true, eq-eqb, or_cases, or_left, or_right, or_from, and_parts, and_from, both_ways, not-true, not_from_false, eqb-false, ne_eqb}
 use Rattle.differences.specs.declared.link.Link.{Link}
-use Rattle.rings.specs.Rings.{IsWalk, walk_length, Walk, RingBelow, Tied, RingPlace}
+use Rattle.rings.specs.Rings.{IsWalk, walk_length, Walk, RingBelow, Tied}
 use Rattle.rings.specs.Tables.{AtMost, Convex, NoneBelow, Walks, any_below, reaches, negative, ring_by, on_ring_below, zero_sum, shows_tie}
-use Rattle.rings.proofs.Steps.{join, some_is, is_some, most_is, most_some, most_less}
+use Rattle.rings.proofs.Steps.{join, some_is, most_is, most_some, most_less}
 
 pub any_some : (n : ℕ) (f : ℕ → Bool) → any_below n f ≡ true → (i : ℕ) × (i < n) × (f i ≡ true)
 any_some zero f h = grind arith

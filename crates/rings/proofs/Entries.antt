@@ -1,14 +1,12 @@
 -- The loops that enter links into a table of walks and close it.
-use Rattle.std.proofs.Common.{◌≡◌, ℕ, zero, suc, ◌+◌, ◌*◌, ◌^◌, ◌<◌, ◌≤◌, Bool, true, ◌≢◌, ◌⊎◌, List, [], ◌∷◌, length, get_or, set, ℤ, pos, negsuc, ◌+ℤ◌, ◌≤ℤ◌, ◌<ℤ◌, is_some, Some, None, Option, sym, refl, ap, ◌∙◌, subst, inl, inr, ⊎_elim, arith, get_or-set_other, get_or-set_same, pow_mono, pow-add}
-use Rattle.std.specs.Int.{int_min}
+use Rattle.std.proofs.Common.{◌≡◌, ℕ, ◌+◌, ◌*◌, ◌^◌, ◌<◌, ◌≤◌, List, [], ◌∷◌, length, get_or, set, ℤ, pos, Some, None, Option, sym, refl, ap, ◌∙◌, subst, ⊎_elim, arith, get_or-set_other, get_or-set_same, pow_mono, pow-add}
 use Rattle.std.specs.List.{ContainsAt as Has}
 use Rattle.std.proofs.lemmas.Int.{ints, clamps}
 use Rattle.std.proofs.lemmas.Bool.{cases_eq}
-use Rattle.std.proofs.ByRecursion.{has_get_or}
 use Rattle.differences.specs.declared.link.Link.{Link}
-use Rattle.rings.specs.Rings.{IsWalk, walk_length, Walk}
-use Rattle.rings.specs.Tables.{entry, at, AtMost, joined, shorter, Stepped, Walks, Moderate, ModerateRow, ModerateRows, Within, Bounded, Blank, GoodLinks, Entered, Closes}
-use Rattle.rings.proofs.Steps.{walks_step, came, stays, goes, most_stays, is_most}
+use Rattle.rings.specs.Rings.{Walk}
+use Rattle.rings.specs.Tables.{entry, at, AtMost, joined, shorter, Stepped, Walks, Moderate, ModerateRows, Within, Bounded, Blank, GoodLinks, Entered, Closes}
+use Rattle.rings.proofs.Steps.{walks_step, came, most_stays}
 
 within_step : (b : ℕ) (o p q : Option ℤ) → Within b o → Within b p → Within b q → Within (b + b) (shorter o (joined p q))
 within_step b None None q h f g = tt

@@ -1,11 +1,11 @@
 -- From what the closed table shows to rings and ties.
-use Rattle.std.proofs.Common.{◌≡◌, ℕ, ◌<◌, ◌≤◌, Bool, true, false, List, [], ℤ, Some, None, Option, sym, refl, ap, ◌∙◌, subst, arith}
+use Rattle.std.proofs.Common.{◌≡◌, ℕ, ◌<◌, List, ℤ, Some, None, Option, subst, arith}
 use Rattle.std.specs.List.{ContainsAt as Has}
 use Rattle.std.proofs.lemmas.Bool.{and_parts, and_from, ltb-true, lt-ltb}
 use Rattle.rules.specs.declared.fault.Fault.TheVariants.{NegativeRing, TiedSummands}
 use Rattle.differences.specs.declared.link.Link.{Link}
-use Rattle.rings.specs.Rings.{RingBelow, RingPlace, Tied, TiedSummand, RingsJudged, ring_below, tied, neither}
-use Rattle.rings.specs.Tables.{Walks, Entered, Closes, GoodLinks, on_ring_below, tied_to, tied_among, shows_tie, ShowsTied, FirstOnRing, FirstTied}
+use Rattle.rings.specs.Rings.{RingPlace, TiedSummand, RingsJudged, ring_below, tied, neither}
+use Rattle.rings.specs.Tables.{Walks, Entered, Closes, GoodLinks, ShowsTied, FirstOnRing, FirstTied}
 use Rattle.rings.proofs.Closed.{ring, no_ring, tie_shown, shown_tie}
 use Rattle.rings.proofs.Ties.{tie_some, some_tie}
 

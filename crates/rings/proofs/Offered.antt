@@ -1,16 +1,13 @@
 -- Links that were not refused, and a table that holds no walk yet.
-use Rattle.std.proofs.Common.{◌≡◌, ℕ, zero, suc, ◌<◌, ◌≤◌, Bool, true, ◌&&◌, List, [], ◌∷◌, length, get_or, take, replicate, ℤ, pos, negsuc, ◌≤ℤ◌, Some, None, Ok, Err, Option, Result, sym, refl, ap, ◌∙◌, subst, arith, length-take, get_or-take, MatchOption}
-use lib.Signed.{le_z}
-use Rattle.std.specs.List.{ContainsAt as Has, AllWithin}
-use Rattle.std.proofs.lemmas.Int.{ints}
-use Rattle.std.proofs.lemmas.Bool.{and_parts, ltb-true}
+use Rattle.std.proofs.Common.{◌≡◌, ℕ, zero, suc, ◌<◌, ◌≤◌, List, [], length, get_or, take, replicate, ℤ, pos, negsuc, ◌≤ℤ◌, Some, None, Err, Option, Result, sym, refl, ap, ◌∙◌, subst, arith, length-take, get_or-take, MatchOption}
+use Rattle.std.specs.List.{ContainsAt as Has}
 use Rattle.rules.specs.declared.fault.Fault.{Fault}
 use Rattle.rules.specs.Refusals.{answer}
 use Rattle.differences.specs.declared.link.Link.{Link}
 use Rattle.differences.specs.Links.{links_refusal}
 use Rattle.differences.proofs.Judging.{links_taken}
 use Rattle.rings.specs.Rings.{RingsJudged, RingsAnswer, RingsChecked}
-use Rattle.rings.specs.Tables.{at, GoodLinks, Blank}
+use Rattle.rings.specs.Tables.{GoodLinks, Blank}
 use Rattle.rings.proofs.Entries.{no_link}
 
 -- links that were not refused are good, and join two columns each

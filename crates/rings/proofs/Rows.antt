@@ -1,5 +1,5 @@
 -- The loops over a row and over the rows of a table.
-use Rattle.std.proofs.Common.{◌≡◌, ℕ, ◌+◌, ◌<◌, ◌≤◌, List, [], length, get_or, set, ℤ, None, Option, sym, refl, ap, ◌∙◌, subst, arith}
+use Rattle.std.proofs.Common.{◌≡◌, ℕ, ◌+◌, ◌<◌, ◌≤◌, List, [], length, get_or, set, ℤ, None, Option, refl, ap, ◌∙◌, arith}
 use Rattle.rings.specs.Tables.{entry, at, shorter, joined, Relaxed, Stepped}
 use Rattle.rings.proofs.Writes.{Writes, writes_none, writes_more}
 

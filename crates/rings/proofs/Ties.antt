@@ -1,7 +1,7 @@
 -- The loops over summands that look for a tie.
-use Rattle.std.proofs.Common.{◌≡◌, ℕ, zero, suc, ◌+◌, ◌<◌, ◌≤◌, Bool, true, false, ◌||◌, ◌⊎◌, List, [], ◌∷◌, length, get_or, drop, ℤ, Option, sym, refl, ap, ◌∙◌, subst, inl, inr, ⊎_elim, add-one, arith, drop-cons}
+use Rattle.std.proofs.Common.{◌≡◌, ℕ, zero, suc, ◌+◌, ◌<◌, Bool, true, false, ◌||◌, List, [], ◌∷◌, length, get_or, drop, ℤ, Option, sym, refl, ap, ◌∙◌, ⊎_elim, add-one, arith, drop-cons}
 use Rattle.std.specs.List.{ContainsAt as Has}
-use Rattle.std.proofs.lemmas.Bool.{or_cases, or_left, or_right, cases_Bool}
+use Rattle.std.proofs.lemmas.Bool.{or_cases, or_left, or_right}
 use Rattle.rings.specs.Tables.{tied_to, tied_among}
 
 module _ (k : ℕ) (d : ℕ → ℕ → Option ℤ) (p : ℕ) (ss : List ℕ) where

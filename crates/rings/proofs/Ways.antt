@@ -1,12 +1,12 @@
 -- Links with no ring below 0 have a shortest walk between each two columns that a walk joins.
-use Rattle.std.proofs.Common.{◌≡◌, ℕ, zero, suc, ◌+◌, ◌<◌, ◌≤◌, Bool, true, false, cond, ◌&&◌, eqb, ◌⊎◌, List, [], ◌∷◌, ℤ, pos, ◌+ℤ◌, ◌≤ℤ◌, ◌<ℤ◌, Some, None, Option, sym, refl, ap, ◌∙◌, subst, inl, inr, ⊎_elim, add-one, arith}
+use Rattle.std.proofs.Common.{◌≡◌, ℕ, zero, suc, ◌<◌, ◌≤◌, Bool, true, false, cond, ◌&&◌, eqb, ◌⊎◌, List, [], ◌∷◌, ℤ, pos, ◌+ℤ◌, ◌≤ℤ◌, Some, None, Option, sym, refl, ap, ◌∙◌, subst, inl, inr, ⊎_elim, add-one, arith}
 use Rattle.std.specs.List.{ContainsAt as Has}
 use Rattle.std.proofs.lemmas.Int.{ints, clamps, by_lt_z}
-use Rattle.std.proofs.lemmas.Bool.{cases_eq, eqb-true, eq-eqb, ne_eqb, and_parts, cond-true, cond-false, cases_Bool}
+use Rattle.std.proofs.lemmas.Bool.{cases_eq, eqb-true, eq-eqb, ne_eqb, and_parts, cond-true, cond-false}
 use Rattle.differences.specs.declared.link.Link.{Link}
-use Rattle.rings.specs.Rings.{IsWalk, walk_length, Walk, RingBelow, RingPlace, Tied}
-use Rattle.rings.specs.Tables.{AtMost, joined, shorter, Stepped, Convex, NoneBelow, Walks}
-use Rattle.rings.proofs.Steps.{walks_step, came, stays, most_stays, most_is, is_most, most_less}
+use Rattle.rings.specs.Rings.{IsWalk, walk_length, Walk, RingPlace, Tied}
+use Rattle.rings.specs.Tables.{AtMost, joined, shorter, Convex, NoneBelow, Walks}
+use Rattle.rings.proofs.Steps.{walks_step, came, most_stays, most_is, is_most}
 
 -- the ways w between k columns: none is shortened by going through another column
 pub record Ways (k : ℕ) (w : ℕ → ℕ → Option ℤ) : Type 0 where

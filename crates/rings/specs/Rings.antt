@@ -1,5 +1,5 @@
 -- Walks along links, and rings: closed walks.
-use Rattle.std.specs.Prelude.{◌≡◌, ℕ, ◌<◌, Bool, true, ◌⊎◌, List, [], ◌∷◌, ℤ, pos, ◌+ℤ◌, ◌<ℤ◌, Some, None, Err, Option, Result, MatchOption}
+use Rattle.std.specs.Prelude.{◌≡◌, ℕ, ◌<◌, List, [], ◌∷◌, ℤ, pos, ◌+ℤ◌, ◌<ℤ◌, Some, None, Err, Option, Result, MatchOption}
 use Rattle.std.specs.List.{ContainsAt as Has}
 use Rattle.rules.specs.declared.fault.Fault.{Fault}
 use Rattle.rules.specs.declared.fault.Fault.TheVariants.{NegativeRing, TiedSummands}

@@ -1,5 +1,5 @@
 -- The table of walks: for two columns the length of a walk that leads from one to the other, or none.
-use Rattle.std.specs.Prelude.{◌≡◌, ℕ, zero, suc, ◌<◌, Bool, true, false, not, ◌&&◌, ◌||◌, List, [], ◌∷◌, length, ℤ, pos, negsuc, ◌+ℤ◌, ◌≤ℤ◌, is_some, Some, None, Option, ◌==◌, int_le, int_lt, nat_lt, slice_index_or}
+use Rattle.std.specs.Prelude.{◌≡◌, ℕ, zero, suc, ◌<◌, Bool, true, false, not, ◌&&◌, ◌||◌, List, [], ◌∷◌, ℤ, pos, negsuc, ◌+ℤ◌, ◌≤ℤ◌, is_some, Some, None, Option, ◌==◌, int_le, int_lt, nat_lt, slice_index_or}
 use Rattle.std.specs.Int.{int_min}
 use Rattle.std.specs.List.{ContainsAt as Has}
 use Rattle.differences.specs.declared.link.Link.{Link}

@@ -19,9 +19,9 @@ fn blank() -> [Row; COLUMNS]
 
 /// Judges the rings in a blank table: first a ring below 0, then a tie.
 fn judge(table: &mut [Row], links: &[Link], summands: &[usize]) -> Option<Fault>
-    requires table_len_bound { length table.old ≤ 32 }
+    requires few { length table.old ≤ 32 }
     requires blank { Blank (length table.old) table.old }
-    requires good_links { GoodLinks (length table.old) links.now }
+    requires good { GoodLinks (length table.old) links.now }
     ensures { RingsJudged (length table.old) links.now summands.now result }
 {
     enter(table, links);

@@ -7,9 +7,9 @@ use crate::walks::Row;
 
 /// Some walk leads from `i` to `j`, the empty one too.
 fn reaches(table: &[Row], i: usize, j: usize) -> bool
-    requires table_len_bound { length table.now ≤ 32 }
-    requires i_in_bounds { i < length table.now }
-    requires j_in_bounds { j < length table.now }
+    requires few { length table.now ≤ 32 }
+    requires i_there { i < length table.now }
+    requires j_there { j < length table.now }
     ensures { result ≡ reaches (at table.now) i j }
 {
     i == j || table[i][j].is_some()
@@ -17,8 +17,8 @@ fn reaches(table: &[Row], i: usize, j: usize) -> bool
 
 /// The table shows a ring below 0 at `j`.
 fn ring_at(table: &[Row], j: usize) -> bool
-    requires table_len_bound { length table.now ≤ 32 }
-    requires j_in_bounds { j < length table.now }
+    requires few { length table.now ≤ 32 }
+    requires j_there { j < length table.now }
     ensures { result ≡ negative (at table.now j j) }
 {
     match table[j][j] {
@@ -29,9 +29,9 @@ fn ring_at(table: &[Row], j: usize) -> bool
 
 /// Column `i` reaches column `j`, is reached from it, and a ring below 0 shows there.
 fn ring_by(table: &[Row], i: usize, j: usize) -> bool
-    requires table_len_bound { length table.now ≤ 32 }
-    requires i_in_bounds { i < length table.now }
-    requires j_in_bounds { j < length table.now }
+    requires few { length table.now ≤ 32 }
+    requires i_there { i < length table.now }
+    requires j_there { j < length table.now }
     ensures { result ≡ ring_by (at table.now) i j }
 {
     reaches(table, i, j) && reaches(table, j, i) && ring_at(table, j)
@@ -39,8 +39,8 @@ fn ring_by(table: &[Row], i: usize, j: usize) -> bool
 
 /// Column `i` reaches a ring below 0 and is reached from it.
 fn on_ring_below(table: &[Row], i: usize) -> bool
-    requires table_len_bound { length table.now ≤ 32 }
-    requires i_in_bounds { i < length table.now }
+    requires few { length table.now ≤ 32 }
+    requires i_there { i < length table.now }
     ensures { result ≡ on_ring_below (length table.now) (at table.now) i }
 {
     for j in 0..table.len() {
@@ -66,9 +66,9 @@ pub(crate) fn first_on_ring(table: &[Row]) -> Option<usize>
 
 /// Two different columns, and the walks there and back add up to 0.
 fn shows_tie(table: &[Row], p: usize, q: usize) -> bool
-    requires table_len_bound { length table.now ≤ 32 }
-    requires p_in_bounds { p < length table.now }
-    requires q_in_bounds { q < length table.now }
+    requires few { length table.now ≤ 32 }
+    requires p_there { p < length table.now }
+    requires q_there { q < length table.now }
     requires bounded { Bounded (length table.now) 257698037760000000 (at table.now) }
     ensures { result ≡ shows_tie (at table.now) p q }
 {
@@ -86,8 +86,8 @@ fn shows_tie(table: &[Row], p: usize, q: usize) -> bool
 
 /// Column `q` is there and tied to `p`.
 fn tied_to(table: &[Row], p: usize, q: usize) -> bool
-    requires table_len_bound { length table.now ≤ 32 }
-    requires p_in_bounds { p < length table.now }
+    requires few { length table.now ≤ 32 }
+    requires p_there { p < length table.now }
     requires bounded { Bounded (length table.now) 257698037760000000 (at table.now) }
     ensures { result ≡ tied_to (length table.now) (at table.now) p q }
 {
@@ -96,8 +96,8 @@ fn tied_to(table: &[Row], p: usize, q: usize) -> bool
 
 /// Column `p` is tied to one of the summands.
 fn tied_among(table: &[Row], p: usize, summands: &[usize]) -> bool
-    requires table_len_bound { length table.now ≤ 32 }
-    requires p_in_bounds { p < length table.now }
+    requires few { length table.now ≤ 32 }
+    requires p_there { p < length table.now }
     requires bounded { Bounded (length table.now) 257698037760000000 (at table.now) }
     ensures { result ≡ tied_among (length table.now) (at table.now) p summands.now }
 {
@@ -111,8 +111,8 @@ fn tied_among(table: &[Row], p: usize, summands: &[usize]) -> bool
 
 /// Column `p` is a summand and tied to another.
 fn is_tied(table: &[Row], p: usize, summands: &[usize]) -> bool
-    requires table_len_bound { length table.now ≤ 32 }
-    requires p_in_bounds { p < length table.now }
+    requires few { length table.now ≤ 32 }
+    requires p_there { p < length table.now }
     requires bounded { Bounded (length table.now) 257698037760000000 (at table.now) }
     ensures { Decides result (ShowsTied (length table.now) (at table.now) summands.now p) }
 {
@@ -121,7 +121,7 @@ fn is_tied(table: &[Row], p: usize, summands: &[usize]) -> bool
 
 /// The smallest summand that is tied to another.
 pub(crate) fn first_tied(table: &[Row], summands: &[usize]) -> Option<usize>
-    requires table_len_bound { length table.now ≤ 32 }
+    requires few { length table.now ≤ 32 }
     requires bounded { Bounded (length table.now) 257698037760000000 (at table.now) }
     ensures { FirstTied (length table.now) (at table.now) summands.now result }
 {

@@ -13,8 +13,8 @@ pub type Row = [Option<i64>; COLUMNS];
 
 /// The shorter of what is known and the way by another column.
 fn by_way(known: Option<i64>, leg: Option<i64>, rest: Option<i64>) -> Option<i64>
-    requires moderate { Moderate leg }
-    requires moderate_2 { Moderate rest }
+    requires leg { Moderate leg }
+    requires rest { Moderate rest }
     ensures { result ≡ shorter known (joined leg rest) }
 {
     match leg {
@@ -37,9 +37,9 @@ fn shorter(known: Option<i64>, length: i64) -> Option<i64>
 
 /// Shortens the first `k` entries of a row by way of a column that is `leg` away.
 fn relax(row: &mut Row, through: &Row, leg: Option<i64>, k: usize)
-    requires k_bound { k ≤ 32 }
-    requires moderate { Moderate leg }
-    requires moderate_row { ModerateRow k through.now }
+    requires few { k ≤ 32 }
+    requires leg { Moderate leg }
+    requires through { ModerateRow k through.now }
     ensures { Relaxed k row.old through.now leg row.new }
 {
     for j in 0..k {
@@ -49,9 +49,9 @@ fn relax(row: &mut Row, through: &Row, leg: Option<i64>, k: usize)
 
 /// Enters the ways by column `m` into each row.
 fn pass(table: &mut [Row], m: usize)
-    requires table_len_bound { length table.old ≤ 32 }
-    requires m_in_bounds { m < length table.old }
-    requires moderate_rows { ModerateRows (length table.old) table.old }
+    requires few { length table.old ≤ 32 }
+    requires m_there { m < length table.old }
+    requires moderate { ModerateRows (length table.old) table.old }
     ensures { Stepped (length table.old) m (at table.old) (at table.new) }
 {
     let through = table[m];
@@ -73,9 +73,9 @@ fn note(row: &mut Row, column: usize, bound: i32)
 
 /// Enters the links into a blank table.
 pub(crate) fn enter(table: &mut [Row], links: &[Link])
-    requires table_len_bound { length table.old ≤ 32 }
+    requires few { length table.old ≤ 32 }
     requires blank { Blank (length table.old) table.old }
-    requires good_links { GoodLinks (length table.old) links.now }
+    requires good { GoodLinks (length table.old) links.now }
     ensures { Entered (length table.old) links.now (at table.new) }
 {
     for n in 0..links.len() {
@@ -86,7 +86,7 @@ pub(crate) fn enter(table: &mut [Row], links: &[Link])
 
 /// Closes the table: afterwards no way by another column is left out.
 pub(crate) fn close(table: &mut [Row])
-    requires table_len_bound { length table.old ≤ 32 }
+    requires few { length table.old ≤ 32 }
     requires bounded { Bounded (length table.old) 60000000 (at table.old) }
     ensures { Closes (length table.old) (at table.old) (at table.new) }
 {
