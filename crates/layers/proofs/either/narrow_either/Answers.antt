@@ -10,7 +10,7 @@ use Rattle.layers.proofs.either.narrow_either.Goals as goal
 pub ask-first-requires : goal.ask-first-requires
 ask-first-requires g c =
     let given = taken _ c.args.windows.now c.requires.taken in
-    record { lawful = ap all_lawful c.copy-from-slice.ensures.after ∙ given.0; room = omega (arith, ap length c.copy-from-slice.ensures.after, given.1) }
+    record { lawful = ap all_lawful c.copy_from_slice.ensures.after ∙ given.0; room = omega (arith, ap length c.copy_from_slice.ensures.after, given.1) }
 
 pub ask-second-requires : goal.ask-second-requires
 ask-second-requires g c =
@@ -27,7 +27,7 @@ returns-in-Void g c =
       other = c.ask-second.ensures.same;
       outcome =
           first_void a b vs c.requires.taken c.ask-second.result c.ask-first.new.windows c.ask-second.new.windows
-          (copy_asked a vs c.copy-from-slice.new.self c.ask-first.new.windows Void c.copy-from-slice.ensures.after c.in-Void.ensures.outcome) c.ask-second.ensures.outcome;
+          (copy_asked a vs c.copy_from_slice.new.self c.ask-first.new.windows Void c.copy_from_slice.ensures.after c.in-Void.ensures.outcome) c.ask-second.ensures.outcome;
     }
 
 pub returns-in-Void-second : goal.returns-in-Void-second
@@ -39,9 +39,9 @@ returns-in-Void-second g c =
       one = c.ask-first.ensures.same;
       other = c.ask-second.ensures.same;
       outcome =
-          subst (Opened (either_meaning a b) vs) (sym c.copy-from-slice-in-Void-second.ensures.after)
+          subst (Opened (either_meaning a b) vs) (sym c.copy_from_slice-in-Void-second.ensures.after)
           (second_void a b vs c.requires.taken c.ask-first.new.windows c.ask-second.new.windows
-          (copy_asked a vs c.copy-from-slice.new.self c.ask-first.new.windows Open c.copy-from-slice.ensures.after c.in-Open.ensures.outcome) c.in-Void-second.ensures.outcome);
+          (copy_asked a vs c.copy_from_slice.new.self c.ask-first.new.windows Open c.copy_from_slice.ensures.after c.in-Open.ensures.outcome) c.in-Void-second.ensures.outcome);
     }
 
 pub returns-in-Open-second : goal.returns-in-Open-second
@@ -53,7 +53,7 @@ returns-in-Open-second g c =
       one = c.ask-first.ensures.same;
       other = c.ask-second.ensures.same;
       outcome =
-          both_open a b vs c.requires.taken c.ask-first.new.windows c.ask-second.new.windows c.span-all.new.windows
-          (copy_asked a vs c.copy-from-slice.new.self c.ask-first.new.windows Open c.copy-from-slice.ensures.after c.in-Open.ensures.outcome) c.in-Open-second.ensures.outcome
-          c.span-all.auto.windows c.span-all.ensures;
+          both_open a b vs c.requires.taken c.ask-first.new.windows c.ask-second.new.windows c.span_all.new.windows
+          (copy_asked a vs c.copy_from_slice.new.self c.ask-first.new.windows Open c.copy_from_slice.ensures.after c.in-Open.ensures.outcome) c.in-Open-second.ensures.outcome
+          c.span_all.auto.windows c.span_all.ensures;
     }

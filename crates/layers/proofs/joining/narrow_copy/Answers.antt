@@ -5,12 +5,12 @@ pub returns-in-Open : goal.returns-in-Open
 returns-in-Open g c =
     record {
       same = c.settle.ensures.same;
-      outcome = written_back _ c.args.windows.now c.copy-from-slice.new.self c.copy-from-slice.ensures.after c.settle.new.windows c.copy-from-slice-in-Open.new.self c.copy-from-slice-in-Open.ensures.after c.in-Open.ensures.outcome;
+      outcome = written_back _ c.args.windows.now c.copy_from_slice.new.self c.copy_from_slice.ensures.after c.settle.new.windows c.copy_from_slice-in-Open.new.self c.copy_from_slice-in-Open.ensures.after c.in-Open.ensures.outcome;
     }
 
 pub returns-in-Void : goal.returns-in-Void
 returns-in-Void g c =
     record {
       same = c.settle.ensures.same;
-      outcome = left_alone (g.T.InTurn.meanings c.args.rules.now) c.args.windows.now c.copy-from-slice.new.self c.copy-from-slice.ensures.after c.settle.new.windows c.requires.taken c.in-Void.ensures.outcome;
+      outcome = left_alone (g.T.InTurn.meanings c.args.rules.now) c.args.windows.now c.copy_from_slice.new.self c.copy_from_slice.ensures.after c.settle.new.windows c.requires.taken c.in-Void.ensures.outcome;
     }

@@ -15,8 +15,8 @@ turn-requires g c =
       room = omega (arith, (taken _ _ c.requires.taken).1, ap most_columns c.turns.invariant.0, c.turns.auto.windows);
     }
 
-pub returns-then-total-width-before : goal.returns-then-total-width-before
-returns-then-total-width-before g c =
+pub returns-then-total_width-before : goal.returns-then-total_width-before
+returns-then-total_width-before g c =
     let t = turned_at (g.T.InTurn.meanings c.args.rules.now) _ c.turns.windows c.turn.new.windows Open c.turns.invariant.0 c.in-Open.ensures.outcome in
     record {
       same = c.turn.ensures.same ∙ c.turns.invariant.0;
@@ -26,7 +26,7 @@ returns-then-total-width-before g c =
 pub turns-smaller : goal.turns-smaller
 turns-smaller g c =
     let t = turned_at (g.T.InTurn.meanings c.args.rules.now) _ c.turns.windows c.turn.new.windows Open c.turns.invariant.0 c.in-Open.ensures.outcome in
-    turn_less _ _ _ _ c.turns.invariant.1 t (λ e. c.if-total-width-before.false (omega arith))
+    turn_less _ _ _ _ c.turns.invariant.1 t (λ e. c.if-total_width-before.false (omega arith))
 
 pub turns-preserved : goal.turns-preserved
 turns-preserved g c =

@@ -5,11 +5,11 @@ use Rattle.rules.proofs.Windows.{lawful_ends}
 use Rattle.layers.proofs.Widths.{difference_fits, difference_is, width_most}
 use Rattle.layers.proofs.joining.window_width.Goals as goal
 
-pub overflow-sub-result : goal.overflow-sub-result
-overflow-sub-result c = difference_fits c.args.window _ _ (lawful_ends c.args.window c.requires) (to_z-of_z w32 _ (search rules)) (to_z-of_z w32 _ (search rules))
+pub overflow_sub-result : goal.overflow_sub-result
+overflow_sub-result c = difference_fits c.args.window _ _ (lawful_ends c.args.window c.requires) (to_z-of_z w32 _ (search rules)) (to_z-of_z w32 _ (search rules))
 
-pub overflow-cast-result : goal.overflow-cast-result
-overflow-cast-result c =
+pub overflow_cast-result : goal.overflow_cast-result
+overflow_cast-result c =
     let e = lawful_ends c.args.window c.requires in
     let is = difference_is c.args.window _ _ e (to_z-of_z w32 _ (search rules)) (to_z-of_z w32 _ (search rules)) in
     let most = width_most c.args.window e in

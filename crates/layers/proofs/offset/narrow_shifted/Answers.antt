@@ -7,34 +7,34 @@ use Rattle.layers.proofs.offset.narrow_shifted.Goals as goal
 pub lower-requires : goal.lower-requires
 lower-requires g c = record { lawful = (taken _ c.args.windows.now c.requires.taken).0; even = c.requires.even }
 
-pub returns-then-is-err : goal.returns-then-is-err
-returns-then-is-err g c =
+pub returns-then-is_err : goal.returns-then-is_err
+returns-then-is_err g c =
     record {
       same = refl;
       outcome =
           nothing_left (shifts_of c.args.shifts.now) (g.R.Rule.meaning c.args.rule.now) c.args.windows.now c.lower.new.below c.requires.taken c.lower.ensures
-          c.check-windows.result c.check-windows.ensures.value c.if-is-err.ensures.value;
+          c.check_windows.result c.check_windows.ensures.value c.if-is_err.ensures.value;
     }
 
-pub ask-all-requires : goal.ask-all-requires
-ask-all-requires g c =
+pub ask_all-requires : goal.ask_all-requires
+ask_all-requires g c =
     something_left (shifts_of c.args.shifts.now) (g.R.Rule.meaning c.args.rule.now) c.args.windows.now c.lower.new.below c.requires.taken c.lower.ensures
-    c.check-windows.result c.check-windows.ensures.value c.if-is-err.ensures.value
+    c.check_windows.result c.check_windows.ensures.value c.if-is_err.ensures.value
 
 pub returns-in-Open : goal.returns-in-Open
 returns-in-Open g c =
     record {
-      same = c.ask-all.ensures.same;
+      same = c.ask_all.ensures.same;
       outcome =
           raised_back (shifts_of c.args.shifts.now) (g.R.Rule.meaning c.args.rule.now) c.args.windows.now c.lower.new.below c.requires.taken c.lower.ensures
-          c.check-windows.result c.check-windows.ensures.value c.ask-all.new.windows c.raise.new.windows c.in-Open.ensures.outcome c.raise.ensures;
+          c.check_windows.result c.check_windows.ensures.value c.ask_all.new.windows c.raise.new.windows c.in-Open.ensures.outcome c.raise.ensures;
     }
 
 pub returns-in-Void : goal.returns-in-Void
 returns-in-Void g c =
     record {
-      same = c.ask-all.ensures.same;
+      same = c.ask_all.ensures.same;
       outcome =
           void_back (shifts_of c.args.shifts.now) (g.R.Rule.meaning c.args.rule.now) c.args.windows.now c.lower.new.below c.requires.taken c.lower.ensures
-          c.check-windows.result c.check-windows.ensures.value c.ask-all.new.windows c.in-Void.ensures.outcome;
+          c.check_windows.result c.check_windows.ensures.value c.ask_all.new.windows c.in-Void.ensures.outcome;
     }

@@ -5,9 +5,9 @@ use Rattle.rules.proofs.Trimming.{narrowed_at}
 use Rattle.layers.proofs.Spanning.{either_same, either_taken}
 use Rattle.layers.proofs.either.EitherRule.narrow.Goals as goal
 
-pub narrow-either-requires : goal.narrow-either-requires
-narrow-either-requires g c =
-    let ok = answer_ok _ (sym c.in-ok-check-windows.ensures.value) in
+pub narrow_either-requires : goal.narrow_either-requires
+narrow_either-requires g c =
+    let ok = answer_ok _ (sym c.in_ok-check_windows.ensures.value) in
     let given = taken c.max-most.result c.args.windows.now ok in
     record {
       taken =
@@ -24,6 +24,6 @@ returns g c =
     let b' = g.B.Rule.meaning c.columns-2.new.self in
     let vs = c.args.windows.now in
     record {
-      same = either_same a _ b _ (c.narrow-either.ensures.one ∙ c.columns.ensures.same) (c.narrow-either.ensures.other ∙ c.columns-2.ensures.same) vs;
-      outcome = narrowed_at _ _ vs c.narrow-either.new.windows (Ok c.narrow-either.result) (either_same a a' b b' c.columns.ensures.same c.columns-2.ensures.same vs) c.narrow-either.ensures.outcome;
+      same = either_same a _ b _ (c.narrow_either.ensures.one ∙ c.columns.ensures.same) (c.narrow_either.ensures.other ∙ c.columns-2.ensures.same) vs;
+      outcome = narrowed_at _ _ vs c.narrow_either.new.windows (Ok c.narrow_either.result) (either_same a a' b b' c.columns.ensures.same c.columns-2.ensures.same vs) c.narrow_either.ensures.outcome;
     }

@@ -7,14 +7,14 @@ use Rattle.layers.proofs.Writing.{same_window}
 use Rattle.layers.proofs.ShiftRange.{shift_range}
 use Rattle.layers.proofs.shifts.moving.lowered.Goals as goal
 
-pub overflow-add-window : goal.overflow-add-window
-overflow-add-window c =
+pub overflow_add-window : goal.overflow_add-window
+overflow_add-window c =
     let ends = lawful_ends c.args.window c.requires.lawful in
     let range = shift_range c.args.shift c.requires.near in
     omega (arith, ints)
 
-pub overflow-add-window-2 : goal.overflow-add-window-2
-overflow-add-window-2 c =
+pub overflow_add-window-2 : goal.overflow_add-window-2
+overflow_add-window-2 c =
     let ends = lawful_ends c.args.window c.requires.lawful in
     let range = shift_range c.args.shift c.requires.near in
     omega (arith, ints)
