@@ -1,10 +1,10 @@
 -- Shifts added to plans and windows, and windows cut to the values.
-use Rattle.std.proofs.Common.{◌≡◌, ℕ, zero, suc, ◌+◌, ◌<◌, ◌≤◌, true, List, [], ◌∷◌, map, length, set, ℤ, pos, ◌+ℤ◌, neg_ℤ, sym, refl, ap, ◌∙◌, subst, arith, rules}
+use Rattle.std.proofs.Common.{◌≡◌, ℕ, zero, suc, ◌<◌, true, List, [], ◌∷◌, map, length, ℤ, pos, ◌+ℤ◌, neg_ℤ, refl, ap, ◌∙◌, arith, rules}
 use Rattle.std.proofs.lemmas.Int.{ints, clamps}
 use Rattle.std.proofs.lemmas.Bool.{and_from}
-use Rattle.std.proofs.lemmas.List.{ext_get_or, get_or-map}
+use Rattle.std.proofs.lemmas.List.{get_or-map}
 use Rattle.rules.specs.declared.window.Window.{Window}
-use Rattle.rules.specs.Plans.{lawful, all_lawful, window_at, value_at, lies, inside, Single}
+use Rattle.rules.specs.Plans.{all_lawful, window_at, value_at, lies, inside, Single}
 use Rattle.rules.proofs.Windows.{Within, within_test, inside-length, inside_at, lawful_at, lawful_ends}
 use Rattle.layers.specs.Offset.{shifted, all_values, shift_window, shift_windows, cut}
 use Rattle.layers.proofs.Mirroring.{value_turned}

@@ -1,5 +1,5 @@
 -- What one of two rules leaves, from what each of them leaves.
-use Rattle.std.proofs.Common.{◌≡◌, ℕ, ◌<◌, max, Bool, true, false, ◌||◌, ◌⊎◌, List, length, ℤ, None, Ok, sym, refl, ap, ◌∙◌, subst, inl, inr, ⊎_elim, arith}
+use Rattle.std.proofs.Common.{◌≡◌, ℕ, ◌<◌, max, Bool, true, false, ◌||◌, ◌⊎◌, List, length, ℤ, None, Ok, sym, refl, ap, ◌∙◌, subst, ⊎_elim, arith}
 use lib.Signed.{lt_z}
 use Rattle.std.specs.Int.{int_max, int_min}
 use Rattle.std.proofs.lemmas.Int.{ints, clamps}
@@ -7,7 +7,7 @@ use Rattle.std.proofs.lemmas.Bool.{and_parts, both_ways, cases_cond, or_cases, o
 use Rattle.rules.specs.declared.window.Window.{Window}
 use Rattle.rules.specs.declared.verdict.Verdict.{Verdict}
 use Rattle.rules.specs.declared.verdict.Verdict.TheVariants.{Open, Void}
-use Rattle.rules.specs.Plans.{all_lawful, window_at, lies, inside, firsts, Supported, Trimmed, NoPlan}
+use Rattle.rules.specs.Plans.{all_lawful, window_at, lies, inside, firsts, Supported, Trimmed}
 use Rattle.rules.specs.Refusals.{window_refusal}
 use Rattle.rules.specs.Meaning.{Scope, Meaning, Opened, Voided, Narrowed}
 use Rattle.rules.proofs.Windows.{inside_same, inside_at, inside-length, inside_from, lies-inside, lawful_at, lawful_ends, lawful_from}

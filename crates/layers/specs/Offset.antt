@@ -1,5 +1,5 @@
 -- A rule on shifted columns.
-use Rattle.std.specs.Prelude.{◌≡◌, ℕ, ◌<◌, ◌≤◌, Bool, true, false, ◌&&◌, List, [], ◌∷◌, length, ℤ, pos, negsuc, ◌+ℤ◌, Some, None, Option, int_le, nat_le}
+use Rattle.std.specs.Prelude.{◌≡◌, ℕ, ◌<◌, ◌≤◌, Bool, true, ◌&&◌, List, [], ◌∷◌, length, ℤ, pos, negsuc, ◌+ℤ◌, Some, None, Option, int_le, nat_le}
 use Rattle.std.specs.Int.{int_max, int_min}
 use Rattle.rules.specs.declared.window.Window.{Window}
 use Rattle.rules.specs.declared.fault.Fault.{Fault}

@@ -1,4 +1,4 @@
-use Rattle.std.proofs.Common.{◌≡◌, length, sym, ap, ◌∙◌, subst, arith}
+use Rattle.std.proofs.Common.{length, sym, ap, ◌∙◌, subst, arith}
 use Rattle.rules.specs.declared.verdict.Verdict.TheVariants.{Open, Void}
 use Rattle.rules.specs.Plans.{all_lawful}
 use Rattle.rules.specs.Meaning.{Opened}

@@ -1,4 +1,4 @@
-use Rattle.std.proofs.Common.{◌≡◌, ap, ◌∙◌, arith}
+use Rattle.std.proofs.Common.{ap, ◌∙◌, arith}
 use Rattle.rules.specs.Plans.{window_at}
 use Rattle.layers.specs.Either.{spanned}
 use Rattle.layers.proofs.Writing.{written_more, unwritten_more}

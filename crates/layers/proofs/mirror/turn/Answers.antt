@@ -1,4 +1,4 @@
-use Rattle.std.proofs.Common.{◌≡◌, true, ◌++◌, map, drop, set, refl, ap, ◌∙◌, arith}
+use Rattle.std.proofs.Common.{◌++◌, map, drop, set, ap, ◌∙◌, arith}
 use Rattle.std.proofs.lemmas.List.{take_all, drop_all, append-nil, get_or_default}
 use Rattle.std.proofs.lemmas.List.Edits.{map_over_more}
 use Rattle.rules.specs.Plans.{lawful, window_at}

@@ -1,4 +1,4 @@
-use Rattle.std.proofs.Common.{◌≡◌, refl}
+use Rattle.std.proofs.Common.{refl}
 use Rattle.rules.proofs.Failing.{taken}
 use Rattle.layers.specs.Shifts.{shifts_of}
 use Rattle.layers.proofs.Lowering.{nothing_left, something_left, raised_back, void_back}

@@ -1,4 +1,4 @@
-use Rattle.std.proofs.Common.{◌≡◌, sym, ap, ◌∙◌}
+use Rattle.std.proofs.Common.{sym, ap, ◌∙◌}
 use Rattle.rules.proofs.Failing.{answer_ok, taken}
 use Rattle.layers.specs.Mirror.{mirror_meaning}
 use Rattle.layers.proofs.Mirroring.{below_taken, lawful_below, turned_back}

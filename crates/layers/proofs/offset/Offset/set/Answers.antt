@@ -1,4 +1,4 @@
-use Rattle.std.proofs.Common.{◌≡◌, sym, arith}
+use Rattle.std.proofs.Common.{sym, arith}
 use Rattle.rules.proofs.Failing.{answer_ok}
 use Rattle.layers.proofs.ShiftRange.{shifts_taken}
 use Rattle.layers.proofs.offset.Offset.set.Goals as goal

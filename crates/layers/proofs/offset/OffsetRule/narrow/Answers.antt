@@ -1,4 +1,4 @@
-use Rattle.std.proofs.Common.{◌≡◌, sym, arith}
+use Rattle.std.proofs.Common.{sym, arith}
 use Rattle.std.proofs.lemmas.List.{length-take}
 use Rattle.rules.proofs.Failing.{answer_ok, taken}
 use Rattle.layers.proofs.Owning.{taken_below}

@@ -1,4 +1,4 @@
-use Rattle.std.proofs.Common.{◌≡◌, ap, ◌∙◌}
+use Rattle.std.proofs.Common.{ap, ◌∙◌}
 use Rattle.layers.specs.Offset.{all_shifts}
 use Rattle.layers.proofs.shifts.Shifts.of.Goals as goal
 

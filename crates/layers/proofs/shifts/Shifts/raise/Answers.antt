@@ -1,4 +1,4 @@
-use Rattle.std.proofs.Common.{◌≡◌, neg_ℤ, ap, ◌∙◌, arith, w32, SFits, rules}
+use Rattle.std.proofs.Common.{neg_ℤ, ap, ◌∙◌, arith, w32, SFits, rules}
 use Rattle.std.proofs.lemmas.Int.{to_z-of_z}
 use Rattle.rules.specs.Plans.{window_at}
 use Rattle.rules.proofs.Windows.{lawful_at}

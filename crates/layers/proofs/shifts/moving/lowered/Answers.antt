@@ -1,8 +1,6 @@
-use Rattle.std.proofs.Common.{◌≡◌, arith}
+use Rattle.std.proofs.Common.{arith}
 use Rattle.std.proofs.lemmas.Int.{ints, clamps}
-use Rattle.rules.specs.declared.window.Window.{Window}
 use Rattle.rules.proofs.Windows.{lawful_ends}
-use Rattle.layers.specs.Offset.{cut, shift_window}
 use Rattle.layers.proofs.Writing.{same_window}
 use Rattle.layers.proofs.ShiftRange.{shift_range}
 use Rattle.layers.proofs.shifts.moving.lowered.Goals as goal
