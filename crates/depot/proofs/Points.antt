@@ -1,11 +1,11 @@
 -- The four points that a rule owes, for the hours of a column.
-use Rattle.std.proofs.Common.{◌≡◌, ℕ, ◌<◌, true, false, List, length, set, ℤ, Some, None, Ok, Option, sym, refl, ap, ◌∙◌, subst, arith}
+use Rattle.std.proofs.Common.{◌≡◌, ℕ, ◌<◌, true, false, List, length, set, Some, None, Ok, Option, sym, refl, ap, ◌∙◌, arith}
 use Rattle.std.proofs.lemmas.Int.{ints}
 use Rattle.std.proofs.lemmas.Bool.{both_ways, ltb-true}
 use Rattle.rules.specs.declared.window.Window.{Window}
 use Rattle.rules.specs.declared.verdict.Verdict.{Verdict}
 use Rattle.rules.specs.declared.verdict.Verdict.TheVariants.{Open}
-use Rattle.rules.specs.Plans.{all_lawful, window_at, value_at, lies, Single, firsts}
+use Rattle.rules.specs.Plans.{all_lawful, window_at, value_at}
 use Rattle.rules.specs.Refusals.{window_refusal}
 use Rattle.rules.specs.Meaning.{Opened, Voided, Narrowed}
 use Rattle.rules.proofs.Windows.{lawful_at, lawful_ends, ends_lawful, lawful-set, inside_same, inside-set, lies_at, lies-set, firsts_at}

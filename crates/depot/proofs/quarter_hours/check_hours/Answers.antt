@@ -9,15 +9,15 @@ returns-then-columns-lt1 c =
 
 pub returns-then-column-columns : goal.returns-then-column-columns
 returns-then-column-columns c =
-    let a = answered c.args.columns c.args.column c.args.opens c.args.closes _ (no_column (c.if-columns-lt1.false, c.if-columns-gt-MOST-COLUMNS.false) c.if-column-columns.true) in
+    let a = answered c.args.columns c.args.column c.args.opens c.args.closes _ (no_column (c.if-columns-lt1.false, c.if-columns-gt-MOST_COLUMNS.false) c.if-column-columns.true) in
     record { value = a.0; law = a.1 }
 
 pub returns-then-opens-closes : goal.returns-then-opens-closes
 returns-then-opens-closes c =
-    let a = answered c.args.columns c.args.column c.args.opens c.args.closes _ (never_open (c.if-columns-lt1.false, c.if-columns-gt-MOST-COLUMNS.false) c.if-column-columns.false c.if-opens-closes.true) in
+    let a = answered c.args.columns c.args.column c.args.opens c.args.closes _ (never_open (c.if-columns-lt1.false, c.if-columns-gt-MOST_COLUMNS.false) c.if-column-columns.false c.if-opens-closes.true) in
     record { value = a.0; law = a.1 }
 
 pub returns : goal.returns
 returns c =
-    let a = answered c.args.columns c.args.column c.args.opens c.args.closes _ (accepted (c.if-columns-lt1.false, c.if-columns-gt-MOST-COLUMNS.false) c.if-column-columns.false c.if-opens-closes.false) in
+    let a = answered c.args.columns c.args.column c.args.opens c.args.closes _ (accepted (c.if-columns-lt1.false, c.if-columns-gt-MOST_COLUMNS.false) c.if-column-columns.false c.if-opens-closes.false) in
     record { value = a.0; law = a.1 }

@@ -1,10 +1,10 @@
-use Rattle.std.proofs.Common.{◌≡◌, sym}
+use Rattle.std.proofs.Common.{sym}
 use Rattle.std.proofs.lemmas.Bool.{lt-ltb}
 use Rattle.depot.proofs.Settings.{set_facts}
 use Rattle.depot.proofs.quarter_hours.QuarterHours.set.Goals as goal
 
 -- what the ghost fields of the row ask
-pub invariant-of-self : goal.invariant-of-self
-invariant-of-self c =
-    let known = set_facts c.args.columns c.args.column c.args.opens c.args.closes (sym c.in-ok-check-hours.ensures.value) c.in-ok-check-hours.ensures.law in
-    (known.0.0, (known.0.1, (lt-ltb _ _ known.1, tt)))
+pub invariant_of-self : goal.invariant_of-self
+invariant_of-self c =
+    let known = set_facts c.args.columns c.args.column c.args.opens c.args.closes (sym c.in_ok-check_hours.ensures.value) c.in_ok-check_hours.ensures.law in
+    record { some = known.0.0; few = known.0.1; there = lt-ltb _ _ known.1 }
