@@ -1,9 +1,9 @@
 -- The first column that is named again.
-use Rattle.std.proofs.Common.{◌≡◌, ℕ, zero, suc, ◌+◌, ◌<◌, ◌≤◌, Bool, true, false, cond, ◌||◌, eqb, ◌⊎◌, List, [], ◌∷◌, length, get_or, drop, set, replicate, Some, None, Option, sym, refl, ap, ◌∙◌, subst, inl, inr, ⊎_elim, add-one, arith, length-set, drop-cons, get_or-set_other, get_or-set_same}
+use Rattle.std.proofs.Common.{◌≡◌, ℕ, zero, suc, ◌+◌, ◌<◌, ◌≤◌, Bool, true, false, cond, ◌||◌, eqb, ◌⊎◌, List, [], ◌∷◌, length, get_or, drop, set, replicate, Some, None, Option, sym, refl, ap, ◌∙◌, inl, inr, ⊎_elim, add-one, arith, length-set, drop-cons, get_or-set_other, get_or-set_same}
 use Rattle.std.specs.Option.{option_map}
 use Rattle.std.proofs.lemmas.Bool.{or_cases, or_left, or_right, eqb-true, eq-eqb, cases_eq, cases_Bool, both_ways, cond-true, cond-false, ne_eqb}
 use Rattle.std.proofs.lemmas.List.{drop_all}
-use Rattle.totals.specs.Sums.{named, first_again, Again, Distinct}
+use Rattle.totals.specs.Sums.{named, first_again, Again}
 
 -- a column that is named stands in the list, and conversely
 pub named_at : (c : ℕ) (cs : List ℕ) → named c cs ≡ true → (j : ℕ) × (j < length cs) × (get_or cs j 0 ≡ c)

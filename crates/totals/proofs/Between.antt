@@ -1,10 +1,10 @@
 -- Every total between those of two plans is that of a plan between them.
-use Rattle.std.proofs.Common.{◌≡◌, ℕ, zero, suc, ◌+◌, ◌<◌, ◌≤◌, ◌⊎◌, ℤ, pos, negsuc, ◌+ℤ◌, ◌-ℤ◌, nat_abs, ◌≤ℤ◌, ◌<ℤ◌, Some, None, Option, refl, ap, inl, inr, arith}
+use Rattle.std.proofs.Common.{◌≡◌, ℕ, zero, suc, ◌<◌, ℤ, pos, ◌+ℤ◌, ◌-ℤ◌, nat_abs, ◌≤ℤ◌, ◌<ℤ◌, Some, Option, inl, inr, arith}
 use Rattle.std.proofs.lemmas.Int.{ints, clamps, by_lt_z}
 use Rattle.differences.proofs.Raising.{Under}
 use Rattle.rings.proofs.Steps.{most_is}
 use Rattle.rings.proofs.Ways.{Ways, OnWays}
-use Rattle.totals.specs.Adding.{sum_to, total}
+use Rattle.totals.specs.Adding.{total}
 use Rattle.totals.proofs.Adding.{sum_mono, sum_gap, sum_one, find_gap}
 use Rattle.totals.proofs.Growing.{raised, raised_keeps, raised_over, raised_under, raised_at, lift_rises, some_same}
 

@@ -1,5 +1,5 @@
 -- The numbers that the search for an end works on: the total it reaches is that of plans with one column fixed.
-use Rattle.std.proofs.Common.{◌≡◌, ℕ, zero, suc, ◌<◌, ◌≤◌, true, List, length, take, ℤ, pos, negsuc, ◌+ℤ◌, ◌-ℤ◌, ◌≤ℤ◌, ◌<ℤ◌, sym, refl, ap, subst, arith, get_or-take, w32, w64, to_z, of_z}
+use Rattle.std.proofs.Common.{◌≡◌, ℕ, zero, suc, ◌<◌, ◌≤◌, true, List, length, ℤ, pos, ◌+ℤ◌, ◌-ℤ◌, ◌≤ℤ◌, sym, refl, ap, subst, arith, w32, w64, to_z, of_z}
 use Rattle.std.specs.Int.{int_max, int_min}
 use Rattle.std.proofs.lemmas.Int.{ints, clamps}
 use Rattle.rules.specs.declared.window.Window.{Window}
@@ -8,7 +8,7 @@ use Rattle.rules.proofs.Windows.{Ends, lawful_at, lawful_ends}
 use Rattle.differences.specs.Tables.{Closed}
 use Rattle.differences.specs.Ends.{first_at, last_at}
 use Rattle.totals.specs.Adding.{sum_to, total}
-use Rattle.totals.specs.Reaching.{number_at, sum_of, reach_to, Least, Value, Near, Reachable, Moderate}
+use Rattle.totals.specs.Reaching.{number_at, sum_of, reach_to, Least, Value, Reachable, Moderate}
 use Rattle.totals.specs.Cuts.{column_at, Columns, least, most, greatest_with, least_with, FirstLeft, LastLeft, CutAt}
 
 -- the total of n summands that are at most their tops, and at most v plus their ways

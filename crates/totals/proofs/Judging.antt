@@ -1,15 +1,14 @@
 -- The refusal of a total and its summands says what its words say.
-use Rattle.std.proofs.Common.{◌≡◌, ℕ, suc, ◌+◌, ◌<◌, ◌≤◌, Bool, true, false, cond, ◌&&◌, ltb, leb, ◌⊎◌, List, [], ◌∷◌, length, get_or, Some, None, Option, sym, refl, ap, ◌∙◌, subst, inl, inr, ⊎_elim, add-one, arith}
+use Rattle.std.proofs.Common.{◌≡◌, ℕ, suc, ◌+◌, ◌<◌, ◌≤◌, Bool, true, false, cond, ltb, leb, ◌⊎◌, List, [], ◌∷◌, length, Some, None, Option, sym, refl, ap, ◌∙◌, subst, ⊎_elim, add-one, arith}
 use Rattle.std.specs.Option.{option_map}
-use Rattle.std.specs.List.{AllWithin}
-use Rattle.std.proofs.lemmas.Bool.{leb-true, leb-false, ltb-true, and_parts}
+use Rattle.std.proofs.lemmas.Bool.{leb-true, ltb-true, and_parts}
 use Rattle.std.proofs.lemmas.Bool.Decides.{nat_tests}
 use Rattle.rules.specs.declared.fault.Fault.{Fault}
 use Rattle.rules.specs.declared.fault.Fault.TheVariants.{ColumnCount, NoColumn, ListLength, ColumnTwice}
 use Rattle.rules.specs.Refusals.{first_failing, Finds, unless, at_first, counted, Counted}
 use Rattle.rules.proofs.Failing.{finds_first, some_none}
 use Rattle.totals.specs.Sums.{there, first_again, some_few, sum_refusal, AllThere, Distinct, SumJudged, no_width, absent, wrong_length, twice, accepted}
-use Rattle.totals.specs.Cuts.{Columns, column_at}
+use Rattle.totals.specs.Cuts.{Columns}
 use Rattle.totals.proofs.Again.{finds_again, found_again}
 use Rattle.totals.proofs.Again as again
 

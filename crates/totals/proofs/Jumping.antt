@@ -1,10 +1,10 @@
 -- A total reaches its goal by jumps: it rises at most as fast as its summands move.
-use Rattle.std.proofs.Common.{◌≡◌, ℕ, zero, suc, ◌+◌, ◌-◌, ◌*◌, ◌/◌, ◌<◌, ◌≤◌, Bool, true, false, cond, List, ℤ, pos, negsuc, ◌+ℤ◌, ◌-ℤ◌, nat_abs, ◌≤ℤ◌, ◌<ℤ◌, sym, refl, ap, ◌∙◌, subst, ⊎_elim, add-mul, mul-zero, mul-one, mul-suc, mul-add, add-one, arith}
+use Rattle.std.proofs.Common.{◌≡◌, ℕ, zero, suc, ◌+◌, ◌*◌, ◌<◌, ◌≤◌, Bool, true, false, cond, List, ℤ, pos, negsuc, ◌+ℤ◌, ◌-ℤ◌, nat_abs, ◌≤ℤ◌, ◌<ℤ◌, sym, refl, ap, ◌∙◌, subst, ⊎_elim, mul-zero, mul-one, mul-add, add-one, arith}
 use lib.Signed.{lt_z}
 use Rattle.std.specs.Int.{int_min}
 use Rattle.std.proofs.lemmas.Int.{ints, clamps, by_lt_z}
 use Rattle.std.proofs.lemmas.Bool.{cases_lt}
-use Rattle.totals.specs.Reaching.{number_at, reach_to, moving_to, Least, Next, Value, Near, Reachable, Moderate}
+use Rattle.totals.specs.Reaching.{number_at, reach_to, moving_to, Least, Next, Value, Reachable, Moderate}
 
 -- the test for a summand that still moves, taken and left
 pub moves : (up top : ℤ) (m : ℕ) → up <ℤ top → m ≡ 1 → m ≡ cond (lt_z up top) 1 0

@@ -1,5 +1,5 @@
 -- The loop that cuts every column by the total.
-use Rattle.std.proofs.Common.{◌≡◌, ℕ, zero, suc, ◌+◌, ◌<◌, ◌≤◌, true, List, length, get_or, set, ℤ, pos, ◌+ℤ◌, ◌-ℤ◌, ◌≤ℤ◌, Ok, Err, Result, sym, refl, ap, ◌∙◌, subst, inr, ⊎_elim, arith, get_or-set_other, get_or-set_same}
+use Rattle.std.proofs.Common.{◌≡◌, ℕ, zero, suc, ◌+◌, ◌<◌, ◌≤◌, true, List, length, set, ℤ, ◌+ℤ◌, ◌-ℤ◌, ◌≤ℤ◌, Ok, Err, Result, sym, refl, subst, inr, ⊎_elim, arith, get_or-set_other, get_or-set_same}
 use Rattle.std.specs.Int.{int_max, int_min}
 use Rattle.std.proofs.lemmas.Int.{ints, clamps}
 use Rattle.std.proofs.lemmas.Bool.{cases_eq}
@@ -11,11 +11,11 @@ use Rattle.rules.specs.Plans.{window_at, all_lawful, NoPlan}
 use Rattle.rules.specs.Meaning.{Narrowed, Opened}
 use Rattle.rules.proofs.Windows.{lies_at}
 use Rattle.rules.proofs.Failing.{takes}
-use Rattle.differences.specs.Tables.{Obeys, obeys, distance_meaning}
+use Rattle.differences.specs.Tables.{obeys, distance_meaning}
 use Rattle.differences.proofs.Obeying.{obeys_each}
 use Rattle.differences.specs.Ends.{first_at, last_at}
-use Rattle.totals.specs.Adding.{sum_to, total}
-use Rattle.totals.specs.Cuts.{column_at, Columns, least, most, greatest_with, least_with, low_of, high_of, CutAt, Met, EndsObey, Meeting, Trims, TotalOutcome}
+use Rattle.totals.specs.Adding.{sum_to}
+use Rattle.totals.specs.Cuts.{column_at, Columns, greatest_with, least_with, low_of, high_of, CutAt, Met, EndsObey, Meeting, Trims, TotalOutcome}
 
 -- the first j columns are cut
 pub record Cutting (d : ℕ → ℕ → ℤ) (ms : List Window) (t : ℕ) (ss : List ℕ) (low high : ℤ) (ws : List Window) (j : ℕ) : Type 0 where

@@ -1,5 +1,5 @@
 -- A loop that adds numbers up.
-use Rattle.std.proofs.Common.{◌≡◌, ℕ, ◌+◌, ◌*◌, ◌<◌, ◌≤◌, List, ℤ, pos, ◌+ℤ◌, ◌≤ℤ◌, refl, add-one, arith}
+use Rattle.std.proofs.Common.{◌≡◌, ℕ, ◌+◌, ◌*◌, List, ℤ, pos, ◌+ℤ◌, ◌≤ℤ◌, add-one, arith}
 use Rattle.std.proofs.lemmas.Int.{ints}
 use Rattle.totals.specs.Reaching.{Value, number_at, sum_of}
 

@@ -1,26 +1,25 @@
 -- What a total leaves is exactly what the plans have that keep ways and meet the total.
-use Rattle.std.proofs.Common.{◌≡◌, ℕ, zero, suc, ◌+◌, ◌<◌, ◌≤◌, Bool, true, cond, eqb, ◌⊎◌, List, [], ◌∷◌, length, get_or, set, ℤ, pos, negsuc, ◌+ℤ◌, ◌-ℤ◌, ◌≤ℤ◌, ◌<ℤ◌, Some, None, Ok, Option, sym, refl, ap, ◌∙◌, subst, inl, inr, ⊎_elim, arith}
-use Rattle.std.specs.Int.{int_max, int_min}
+use Rattle.std.proofs.Common.{◌≡◌, ℕ, zero, suc, ◌<◌, ◌≤◌, Bool, true, cond, eqb, List, length, ℤ, pos, negsuc, ◌≤ℤ◌, ◌<ℤ◌, None, Ok, Option, sym, refl, ap, ◌∙◌, subst, inl, inr, ⊎_elim, arith}
+use Rattle.std.specs.Int.{int_max}
 use Rattle.std.proofs.lemmas.Int.{ints, clamps, by_lt_z}
 use Rattle.std.proofs.lemmas.Bool.{cases_eq, cond-true, cond-false, eq-eqb, ne_eqb}
 use Rattle.rules.specs.declared.window.Window.{Window}
 use Rattle.rules.specs.declared.verdict.Verdict.{Verdict}
 use Rattle.rules.specs.declared.verdict.Verdict.TheVariants.{Open, Void}
-use Rattle.rules.specs.Plans.{window_at, value_at, lies, inside, all_lawful, Supported, Trimmed, Filled, Keeps, NoPlan}
+use Rattle.rules.specs.Plans.{window_at, value_at, lies, inside, all_lawful, Supported, Filled, Keeps, NoPlan}
 use Rattle.rules.specs.Refusals.{window_refusal}
 use Rattle.rules.specs.Enumeration.{Left}
 use Rattle.rules.specs.Meaning.{Meaning, tight_rule, Narrowed, Opened}
-use Rattle.rules.proofs.Windows.{Holds, Ends, lawful_at, lawful_ends, lies_at, lies-length, lies_from, lies-inside, inside_at, inside-length, inside_from, inside_trans, plan_of, plan_at, plan_lies}
+use Rattle.rules.proofs.Windows.{Holds, Ends, lawful_at, lawful_ends, lies_at, lies-length, lies_from, lies-inside, inside-length, inside_from, inside_trans, plan_of, plan_at, plan_lies}
 use Rattle.rules.proofs.Failing.{taken}
 use Rattle.rules.proofs.Outcomes.{opened}
-use Rattle.differences.specs.Tables.{Obeys, Closed, obeys}
+use Rattle.differences.specs.Tables.{Obeys, Closed}
 use Rattle.differences.specs.Ends.{first_at, last_at}
-use Rattle.differences.proofs.Obeying.{obeys_each, each_obeys}
+use Rattle.differences.proofs.Obeying.{each_obeys}
 use Rattle.differences.proofs.Raising.{Under, raised, lowered, raised_obeys, raised_over, raised_under, raised_at, lowered_obeys, lowered_under, lowered_over, lowered_at, raised_lowered}
 use Rattle.rings.proofs.Ways.{Ways, OnWays}
 use Rattle.totals.specs.Adding.{sum_to, total}
-use Rattle.totals.specs.Cuts.{column_at, least, most, greatest_with, least_with, ColumnCut, Trims, low_of, high_of, TotalCut, TotalVoid, TotalOutcome}
-use Rattle.totals.proofs.Adding.{sum_mono}
+use Rattle.totals.specs.Cuts.{column_at, ColumnCut, Trims, low_of, high_of, TotalCut, TotalVoid, TotalOutcome}
 use Rattle.totals.proofs.Meeting.{ends_obey}
 use Rattle.totals.proofs.Between.{Summands, Between, reach, total_mono, under_trans}
 

@@ -7,7 +7,7 @@ use Rattle.rules.specs.declared.verdict.Verdict.TheVariants.{Open, Void}
 use Rattle.rules.specs.Plans.{window_at, all_lawful, inside, Keeps, NoPlan, Trimmed}
 use Rattle.differences.specs.Tables.{obeys, Obeys}
 use Rattle.differences.specs.Ends.{first_at, last_at}
-use Rattle.totals.specs.Adding.{sum_to, total}
+use Rattle.totals.specs.Adding.{total}
 
 -- the column of a summand
 abbrev pub column_at : List ℕ → ℕ → ℕ

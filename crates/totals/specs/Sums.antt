@@ -6,7 +6,6 @@ use Rattle.rules.specs.declared.fault.Fault.{Fault}
 use Rattle.rules.specs.declared.fault.Fault.TheVariants.{ColumnCount, NoColumn, ListLength, ColumnTwice}
 use Rattle.rules.specs.Plans.{value_at}
 use Rattle.rules.specs.Refusals.{first_failing, First, unless, at_first, counted, Counted}
-use Rattle.rules.specs.Meaning.{Scope}
 
 abbrev pub int_eq : ℤ → ℤ → Bool
 int_eq a b = int_le a b && int_le b a

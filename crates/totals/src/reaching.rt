@@ -19,9 +19,9 @@ pub struct Reached {
 
 /// What one summand adds.
 fn step(top: i32, way: i32, v: i32) -> Reached
-    requires value { Value top }
-    requires near { Near way }
-    requires value_2 { Value v }
+    requires top { Value top }
+    requires way { Near way }
+    requires value { Value v }
     ensures sum { result.sum ≡ int_min top (v +ℤ way) }
     ensures moving { result.moving ≡ (if int_lt (v +ℤ way) top then 1 else 0) }
     ensures few { result.moving ≤ 1 }
@@ -38,7 +38,7 @@ fn step(top: i32, way: i32, v: i32) -> Reached
 
 /// How far the total reaches when the column stands at `v`.
 fn reach(tops: &Row, ways: &Row, n: usize, v: i32) -> Reached
-    requires n_bound { n ≤ 31 }
+    requires few { n ≤ 31 }
     requires reachable { Reachable tops.now ways.now n }
     requires value { Value v }
     ensures sum { result.sum ≡ reach_to tops.now ways.now v n }
@@ -57,10 +57,10 @@ fn reach(tops: &Row, ways: &Row, n: usize, v: i32) -> Reached
 
 /// The least number of steps after which `moving` summands can make up the deficit.
 fn jump(deficit: u64, moving: u64) -> u64
-    requires deficit_nonzero { 0 < deficit }
-    requires deficit_bound { deficit ≤ 10000000000 }
-    requires moving_nonzero { 0 < moving }
-    requires moving_bound { moving ≤ 31 }
+    requires short { 0 < deficit }
+    requires near { deficit ≤ 10000000000 }
+    requires some { 0 < moving }
+    requires few { moving ≤ 31 }
     ensures some { 0 < result }
     ensures enough { deficit ≤ result * moving }
     ensures short { (t : ℕ) → t < result → t * moving < deficit }
@@ -71,13 +71,13 @@ fn jump(deficit: u64, moving: u64) -> u64
 /// The value after a jump from `v`: before it the total is still too small. It is not beyond `last`.
 fn next(v: i32, last: i32, deficit: i64, moving: u64) -> i32
     requires value { Value v }
-    requires value_2 { Value last }
-    requires v_le_last { v ≤ℤ last }
-    requires pos_bound { pos 0 <ℤ deficit }
-    requires deficit_bound { deficit ≤ℤ pos 10000000000 }
-    requires moving_nonzero { 0 < moving }
-    requires moving_bound { moving ≤ 31 }
-    requires deficit_bound_2 { deficit ≤ℤ pos (unsigned_abs (last -ℤ v) * moving) }
+    requires last { Value last }
+    requires order { v ≤ℤ last }
+    requires short { pos 0 <ℤ deficit }
+    requires near { deficit ≤ℤ pos 10000000000 }
+    requires some { 0 < moving }
+    requires few { moving ≤ 31 }
+    requires reached { deficit ≤ℤ pos (unsigned_abs (last -ℤ v) * moving) }
     ensures { Next v last deficit moving result }
 {
     v + jump(deficit as u64, moving) as i32
@@ -92,12 +92,12 @@ pub(crate) fn least_reaching(
     first: i32,
     last: i32,
 ) -> i32
-    requires n_bound { n ≤ 31 }
+    requires few { n ≤ 31 }
     requires reachable { Reachable tops.now ways.now n }
-    requires value { Value first }
-    requires value_2 { Value last }
-    requires first_le_last { first ≤ℤ last }
-    requires goal_bound { goal ≤ℤ reach_to tops.now ways.now last n }
+    requires first { Value first }
+    requires last { Value last }
+    requires order { first ≤ℤ last }
+    requires reached { goal ≤ℤ reach_to tops.now ways.now last n }
     ensures least { Least tops.now ways.now n goal first result }
     ensures upto { result ≤ℤ last }
 {

@@ -1,4 +1,4 @@
-use Rattle.std.proofs.Common.{◌∙◌, arith}
+use Rattle.std.proofs.Common.{arith}
 use Rattle.std.proofs.lemmas.Int.{ints}
 use Rattle.totals.proofs.Summing.{summing_more}
 use Rattle.totals.proofs.cutting.added.Goals as goal

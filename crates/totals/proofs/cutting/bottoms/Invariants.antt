@@ -1,5 +1,5 @@
 use Rattle.std.proofs.Common.{◌≡◌, ℕ, ◌<◌, length, pos, ◌-ℤ◌}
-use Rattle.differences.specs.Ends.{first_at, last_at}
+use Rattle.differences.specs.Ends.{first_at}
 use Rattle.totals.specs.Reaching.{number_at}
 use Rattle.totals.specs.Cuts.{column_at}
 use Rattle.totals.proofs.cutting.bottoms.Given as goal

@@ -11,7 +11,7 @@ returns-then-j-total g c =
 pub returns : goal.returns
 returns g c =
     let v = c.requires.values in
-    let f = c.first-left-first.type-inv in
-    let l = c.last-left-last.type-inv in
-    cut_other (g.D.Distance.distance c.args.distances.now) _ _ _ _ _ _ _ _ _ _ _ _ c.if-j-total.false c.first-left-first.ensures c.last-left-last.ensures
+    let f = c.first_left-first.type_inv in
+    let l = c.last_left-last.type_inv in
+    cut_other (g.D.Distance.distance c.args.distances.now) _ _ _ _ _ _ _ _ _ _ _ _ c.if-j-total.false c.first_left-first.ensures c.last_left-last.ensures
     (omega (arith, ints)) (omega (arith, ints)) (omega (arith, ints)) (omega (arith, ints))

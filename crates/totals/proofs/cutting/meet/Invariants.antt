@@ -1,4 +1,3 @@
-use Rattle.std.proofs.Common.{length}
 use Rattle.totals.proofs.Meeting.{Cutting}
 use Rattle.totals.proofs.cutting.meet.Given as goal
 

@@ -15,8 +15,8 @@ pub added-most-requires : goal.added-most-requires
 added-most-requires c =
     record { few = c.requires.few; values = tops_values c.args.windows.now c.args.summands.now c.tops.result c.requires.lawful c.requires.there c.tops.ensures }
 
-pub overflow-sub-least : goal.overflow-sub-least
-overflow-sub-least c = let m = c.added-least.ensures.moderate in omega (arith, ints)
+pub overflow_sub-least : goal.overflow_sub-least
+overflow_sub-least c = let m = c.added-least.ensures.moderate in omega (arith, ints)
 
 pub returns : goal.returns
 returns c =
@@ -30,8 +30,8 @@ returns c =
     let b : c.added-most.result ≡ most ws ss = c.added-most.ensures.is ∙ tops_sum ws ss c.tops.result c.requires.lawful c.requires.there c.tops.ensures in
     let first : Value w.first = (e.low, omega (arith, ints, e.order, e.high)) in
     let last : Value w.last = (omega (arith, ints, e.low, e.order), e.high) in
-    let lo = larger_is _ _ _ _ (least ws ss) w.first c.max.ensures.value (to_z-of_z w64 _ (record { sfits = c.max.type-inv })) (turned_back _ _ m a) (end_as _ _ first c.from.ensures) in
-    let hi = smaller_is _ _ _ _ (most ws ss) w.last c.min.ensures.value (to_z-of_z w64 _ (record { sfits = c.min.type-inv })) (taken_as _ _ n b) (end_as _ _ last c.from-2.ensures) in
+    let lo = larger_is _ _ _ _ (least ws ss) w.first c.max.ensures.value (to_z-of_z w64 _ (record { sfits = c.max.type_inv })) (turned_back _ _ m a) (end_as _ _ first c.from.ensures) in
+    let hi = smaller_is _ _ _ _ (most ws ss) w.last c.min.ensures.value (to_z-of_z w64 _ (record { sfits = c.min.type_inv })) (taken_as _ _ n b) (end_as _ _ last c.from-2.ensures) in
     record {
       low = lo;
       high = hi;

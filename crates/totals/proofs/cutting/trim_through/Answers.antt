@@ -1,4 +1,4 @@
-use Rattle.std.proofs.Common.{◌≡◌, ℕ, length, sym, refl, ◌∙◌, subst, inl, arith}
+use Rattle.std.proofs.Common.{ℕ, length, sym, refl, subst, inl, arith}
 use Rattle.rules.proofs.Windows.{inside-length}
 use Rattle.differences.specs.Tables.{Closed}
 use Rattle.totals.specs.Cuts.{Columns, Trims}
@@ -9,7 +9,7 @@ pub meet-requires : goal.meet-requires
 meet-requires g c =
     let d = g.D.Distance.distance c.args.distances.now in
     let vs = c.args.windows.now in
-    let ms = c.trim-by.new.windows in
+    let ms = c.trim_by.new.windows in
     let o = copy_open _ d _ vs ms c.requires.copy c.requires.width _ c.in-Open.is c.in-Ok.ensures in
     let long = inside-length ms vs o.shrinks in
     record {
@@ -32,6 +32,6 @@ pub returns-in-Open : goal.returns-in-Open
 returns-in-Open g c =
     let d = g.D.Distance.distance c.args.distances.now in
     let vs = c.args.windows.now in
-    let ms = c.trim-by.new.windows in
+    let ms = c.trim_by.new.windows in
     let o = copy_open _ d _ vs ms c.requires.copy c.requires.width _ c.in-Open.is c.in-Ok.ensures in
     met_outcome _ _ d _ _ vs ms _ (inside-length ms vs o.shrinks) (omega arith) o _ c.meet.ensures

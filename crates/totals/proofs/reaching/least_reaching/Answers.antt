@@ -1,24 +1,24 @@
-use Rattle.std.proofs.Common.{◌≡◌, ℤ, pos, negsuc, ◌-ℤ◌, ◌≤ℤ◌, ◌<ℤ◌, sym, refl, ap, arith, w32, w64, SFits, to_z, of_z}
+use Rattle.std.proofs.Common.{◌≡◌, ℤ, ◌-ℤ◌, ◌<ℤ◌, refl, ap, arith, w32, w64, SFits, to_z, of_z}
 use Rattle.std.proofs.lemmas.Int.{ints, to_z-of_z}
 use Rattle.totals.specs.Reaching.{Value, reach_to}
 use Rattle.totals.proofs.Jumping.{Jumping, jumping_same, jumping_none, jumping_more, jumping_all, some_move, within, deficit_bound, few_move, bounds}
 use Rattle.totals.proofs.reaching.least_reaching.Goals as goal
 
 -- the state of the loop in plain numbers
-state : (c : goal.After-struct-told-in-loop-at·1) → Jumping c.args.tops.now c.args.ways.now c.args.n c.args.goal c.args.first c.args.last c.loop-at.v c.loop-at.at.sum c.loop-at.at.moving
+state : (c : goal.After-struct_told-in-loop-at-1) → Jumping c.args.tops.now c.args.ways.now c.args.n c.args.goal c.args.first c.args.last c.loop-at.v c.loop-at.at.sum c.loop-at.at.moving
 state c = jumping_same _ _ _ _ _ _ _ _ _ _ _ _ _ _ (to_z-of_z w64 _ c.ranges.goal) (to_z-of_z w32 _ c.ranges.first) (to_z-of_z w32 _ c.ranges.last) c.loop-at.v-is refl c.loop-at.invariant
 
-value : (c : goal.After-struct-told-in-loop-at·1) → Value c.loop-at.v
-value c = let j = state c in let lo = j.low in let hi = j.high in let f = c.requires.2 in let l = c.requires.3 in (omega (arith, ints), omega (arith, ints))
+value : (c : goal.After-struct_told-in-loop-at-1) → Value c.loop-at.v
+value c = let j = state c in let lo = j.low in let hi = j.high in let f = c.requires.first in let l = c.requires.last in (omega (arith, ints), omega (arith, ints))
 
-less : (c : goal.After-struct-told-in-loop-at·1) → c.loop-at.at.sum <ℤ c.args.goal
+less : (c : goal.After-struct_told-in-loop-at-1) → c.loop-at.at.sum <ℤ c.args.goal
 less c = let t = c.loop-at.invariant.moderate in let g = c.ranges.goal in omega (arith, ints, c.loop-at-test.true)
 
-pub overflow-sub-goal : goal.overflow-sub-goal
-overflow-sub-goal c =
+pub overflow_sub-goal : goal.overflow_sub-goal
+overflow_sub-goal c =
     let t = c.loop-at.invariant.moderate in
     let l = less c in
-    let d = deficit_bound _ _ _ c.args.goal _ _ c.requires.0 c.requires.1 c.requires.3 c.requires.5 _ _ _ (value c) (state c) (less c) in
+    let d = deficit_bound _ _ _ c.args.goal _ _ c.requires.few c.requires.reachable c.requires.last c.requires.reached _ _ _ (value c) (state c) (less c) in
     omega (arith, ints)
 
 pub next-v-requires : goal.next-v-requires
@@ -28,21 +28,22 @@ next-v-requires c =
     let t = c.loop-at.invariant.moderate in
     let s : SFits w64 c.loop-at.at.sum = omega (arith, ints) in
     let l = less c in
-    let b = deficit_bound _ _ _ c.args.goal _ _ c.requires.0 c.requires.1 c.requires.3 c.requires.5 _ _ _ (value c) (state c) (less c) in
+    let b = deficit_bound _ _ _ c.args.goal _ _ c.requires.few c.requires.reachable c.requires.last c.requires.reached _ _ _ (value c) (state c) (less c) in
     let d : SFits w64 (c.args.goal -ℤ c.loop-at.at.sum) = omega (arith, ints) in
     let few = few_move c.args.tops.now c.args.ways.now c.loop-at.v c.args.n in
     let many = (state c).moving_is in
-    let most = c.requires.0 in
-    simp (c.loop-at.v-is, to_z-of_z) (
-      value c,
-      c.requires.3,
-      (state c).high,
-      omega (arith, ints),
-      omega (arith, ints),
-      some_move _ _ _ c.args.goal _ _ c.requires.0 c.requires.1 c.requires.3 c.requires.5 _ _ _ (value c) (state c) (less c),
-      omega arith,
-      within _ _ _ c.args.goal _ _ c.requires.0 c.requires.1 c.requires.3 c.requires.5 _ _ _ (value c) (state c) (less c),
-    )
+    let most = c.requires.few in
+    simp (c.loop-at.v-is, to_z-of_z)
+    record {
+      value = value c;
+      last = c.requires.last;
+      order = (state c).high;
+      short = omega (arith, ints);
+      near = omega (arith, ints);
+      some = some_move _ _ _ c.args.goal _ _ c.requires.few c.requires.reachable c.requires.last c.requires.reached _ _ _ (value c) (state c) (less c);
+      few = omega arith;
+      reached = within _ _ _ c.args.goal _ _ c.requires.few c.requires.reachable c.requires.last c.requires.reached _ _ _ (value c) (state c) (less c);
+    }
 
 pub reach-at-requires-in-loop-at : goal.reach-at-requires-in-loop-at
 reach-at-requires-in-loop-at c =
@@ -50,20 +51,20 @@ reach-at-requires-in-loop-at c =
     let high = x.high in
     let is = x.is in
     let low = c.loop-at.invariant.low in
-    let f = c.requires.2 in
-    let l = c.requires.3 in
-    (c.requires.0, c.requires.1, (omega (arith, ints), omega (arith, ints)))
+    let f = c.requires.first in
+    let l = c.requires.last in
+    record { few = c.requires.few; reachable = c.requires.reachable; value = (omega (arith, ints), omega (arith, ints)) }
 
 pub loop-at-init : goal.loop-at-init
-loop-at-init c = jumping_none _ _ _ _ _ _ _ _ _ (let h = c.requires.4 in omega (arith, ints)) refl c.reach-at.ensures.sum c.reach-at.ensures.moving c.reach-at.ensures.moderate
+loop-at-init c = jumping_none _ _ _ _ _ _ _ _ _ (let h = c.requires.order in omega (arith, ints)) refl c.reach-at.ensures.sum c.reach-at.ensures.moving c.reach-at.ensures.moderate
 
 deficit-is : (c : goal.After-reach-at-in-loop-at) → to_z w64 (of_z w64 (to_z w64 (of_z w64 c.args.goal) -ℤ to_z w64 (of_z w64 c.loop-at.at.sum))) ≡ to_z w64 (of_z w64 c.args.goal) -ℤ c.loop-at.at.sum
 deficit-is c =
     let t = c.loop-at.invariant.moderate in
     let g = c.ranges.goal in
-    let r = c.requires.5 in
-    let b = bounds c.args.tops.now c.args.ways.now c.args.last c.args.n c.requires.3 c.requires.1 in
-    let few = c.requires.0 in
+    let r = c.requires.reached in
+    let b = bounds c.args.tops.now c.args.ways.now c.args.last c.args.n c.requires.last c.requires.reachable in
+    let few = c.requires.few in
     let l = c.loop-at-test.true in
     omega (arith, ints)
 
@@ -71,13 +72,13 @@ pub loop-at-preserved : goal.loop-at-preserved
 loop-at-preserved c =
     let low = c.loop-at.invariant.low in
     let high = c.loop-at.invariant.high in
-    let f = c.requires.2 in
-    let l = c.requires.3 in
+    let f = c.requires.first in
+    let l = c.requires.last in
     let e = to_z-of_z w32 c.args.last c.ranges.last in
     let n = c.args.n in
     let lt : c.loop-at.at.sum <ℤ to_z w64 (of_z w64 c.args.goal) = (let t = c.loop-at.invariant.moderate in let g = c.ranges.goal in omega (arith, ints, c.loop-at-test.true)) in
-    jumping_more c.args.tops.now c.args.ways.now n _ _ _ c.requires.0 c.requires.1 (omega (arith, ints), omega (arith, ints))
-    (let r = c.requires.5 in let a = ap (λ (u : ℤ). reach_to c.args.tops.now c.args.ways.now u n) e in omega (arith, ints))
+    jumping_more c.args.tops.now c.args.ways.now n _ _ _ c.requires.few c.requires.reachable (omega (arith, ints), omega (arith, ints))
+    (let r = c.requires.reached in let a = ap (λ (u : ℤ). reach_to c.args.tops.now c.args.ways.now u n) e in omega (arith, ints))
     _ _ _ (omega (arith, ints), omega (arith, ints)) c.loop-at.invariant lt _ _ _ _ _ c.next-v.ensures (deficit-is c) (omega (arith, ints)) c.reach-at-in-loop-at.ensures.sum c.reach-at-in-loop-at.ensures.moving c.reach-at-in-loop-at.ensures.moderate
 
 pub loop-at-smaller : goal.loop-at-smaller
@@ -87,8 +88,8 @@ loop-at-smaller c =
     let is = x.is in
     let some = x.some in
     let low = c.loop-at.invariant.low in
-    let f = c.requires.2 in
-    let l = c.requires.3 in
+    let f = c.requires.first in
+    let l = c.requires.last in
     omega (arith, ints)
 
 pub returns : goal.returns
@@ -96,7 +97,7 @@ returns c =
     let t = c.loop-at.invariant.moderate in
     let g = c.ranges.goal in
     let h = c.loop-at.invariant.high in
-    let l = c.requires.3 in
+    let l = c.requires.last in
     record {
       least = jumping_all _ _ _ _ _ _ _ _ _ (omega (arith, ints, c.loop-at-test.false))
           (jumping_same _ _ _ _ _ _ _ _ _ _ _ _ _ _ (to_z-of_z w64 _ c.ranges.goal) (to_z-of_z w32 _ c.ranges.first) (to_z-of_z w32 _ c.ranges.last) refl refl c.loop-at.invariant);

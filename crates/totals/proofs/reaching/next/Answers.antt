@@ -1,7 +1,6 @@
-use Rattle.std.proofs.Common.{◌≡◌, ℕ, ◌*◌, ◌<◌, ◌≤◌, ℤ, pos, ◌+ℤ◌, ◌-ℤ◌, nat_abs, ◌≤ℤ◌, ◌<ℤ◌, ⊎_elim, arith}
+use Rattle.std.proofs.Common.{ℕ, ◌*◌, ◌<◌, ◌≤◌, pos, ◌-ℤ◌, nat_abs, ◌<ℤ◌, ⊎_elim, arith}
 use Rattle.std.proofs.lemmas.Int.{ints}
 use Rattle.std.proofs.lemmas.Bool.{cases_lt}
-use Rattle.totals.specs.Reaching.{Next}
 use Rattle.totals.proofs.Jumping.{next_at}
 use Rattle.totals.proofs.reaching.next.Goals as goal
 
@@ -12,15 +11,15 @@ ends c t h = let s = c.jump.ensures.short t h in let p = c.requires in omega (ar
 steps : (c : goal.After-jump) → c.jump.result ≤ nat_abs (c.args.last -ℤ c.args.v)
 steps c =
     let s = nat_abs (c.args.last -ℤ c.args.v) in
-    ⊎_elim (λ lt. let f = ends c s lt in let p = c.requires.7 in absurd (omega (arith, ints))) (λ ge. ge) (cases_lt s c.jump.result)
+    ⊎_elim (λ lt. let f = ends c s lt in let p = c.requires.reached in absurd (omega (arith, ints))) (λ ge. ge) (cases_lt s c.jump.result)
 
-pub overflow-cast-result : goal.overflow-cast-result
-overflow-cast-result c = let s = steps c in let p = c.requires in omega (arith, ints)
+pub overflow_cast-result : goal.overflow_cast-result
+overflow_cast-result c = let s = steps c in let p = c.requires in omega (arith, ints)
 
-pub overflow-add-result : goal.overflow-add-result
-overflow-add-result c = let s = steps c in let p = c.requires in omega (arith, ints)
+pub overflow_add-result : goal.overflow_add-result
+overflow_add-result c = let s = steps c in let p = c.requires in omega (arith, ints)
 
 pub returns : goal.returns
 returns c =
     let s = steps c in
-    next_at c.args.v c.args.last c.args.deficit c.args.moving c.jump.result _ c.requires.2 c.jump.ensures.some (let p = c.requires in omega (arith, ints)) (ends c) c.requires.7
+    next_at c.args.v c.args.last c.args.deficit c.args.moving c.jump.result _ c.requires.order c.jump.ensures.some (let p = c.requires in omega (arith, ints)) (ends c) c.requires.reached

@@ -9,8 +9,8 @@ loop-a-init c = partly_none _ _ _
 pub loop-a-preserved : goal.loop-a-preserved
 loop-a-preserved c =
     let a = c.loop-a.a in
-    let top = c.requires.1.top a c.loop-a-test.true in
-    let way = c.requires.1.way a c.loop-a-test.true in
+    let top = c.requires.reachable.top a c.loop-a-test.true in
+    let way = c.requires.reachable.way a c.loop-a-test.true in
     let v = to_z w32 (of_z w32 c.args.v) in
     partly_more _ _ v v _ _ _ c.step-one.result.sum _ _ _ _ c.step-one.result.moving c.loop-a.invariant
     c.step-one.ensures.sum c.step-one.ensures.moving refl (omega (arith, ints)) (omega (arith, ints))

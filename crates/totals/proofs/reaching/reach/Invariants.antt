@@ -1,5 +1,3 @@
-use Rattle.std.proofs.Common.{◌≡◌, ◌*◌, ◌≤◌, ℤ, pos, negsuc, ◌+ℤ◌, ◌≤ℤ◌}
-use Rattle.totals.specs.Reaching.{reach_to, moving_to}
 use Rattle.totals.proofs.Jumping.{Partly}
 use Rattle.totals.proofs.reaching.reach.Given as goal
 

@@ -5,10 +5,16 @@ use Rattle.totals.proofs.LinkedRows.{not_set}
 use Rattle.totals.proofs.Rows.{none_means}
 use Rattle.totals.proofs.linked.LinkedSum.fresh.Goals as goal
 
-pub invariant-of-result : goal.invariant-of-result
-invariant-of-result c =
+pub invariant_of-result : goal.invariant_of-result
+invariant_of-result c =
     let no = not_set c.none-terms.result ListLength c.none-terms.ensures in
-    ((λ e. absurd (no e)), ((λ e. absurd (no e)), ((λ e. absurd (no e)), ((λ e. absurd (no e)), ((λ e. absurd (no e)), tt)))))
+    record {
+      entries = λ e. absurd (no e);
+      rings = λ e. absurd (no e);
+      untied = λ e. absurd (no e);
+      wide = λ e. absurd (no e);
+      same = λ e. absurd (no e);
+    }
 
 pub returns : goal.returns
-returns c = none_means (linked_kind (take 0 c.no-links-links.result)) c.none-terms.result ListLength c.none-terms.ensures
+returns c = none_means (linked_kind (take 0 c.no_links-links.result)) c.none-terms.result ListLength c.none-terms.ensures

@@ -6,48 +6,54 @@ use Rattle.totals.proofs.LinkedJudging.{linked_judged, links_accepted}
 use Rattle.totals.proofs.LinkedRows.{entries_taken, links_not_refused, sum_not_refused, sound_set, sound_row, linked_held, handed_on, ok_if_none}
 use Rattle.totals.proofs.linked.LinkedSum.set.Goals as goal
 
-pub returns-in-err-check-linked : goal.returns-in-err-check-linked
-returns-in-err-check-linked c =
-    let p = err_from_is_err_and c.from-residual.result c.from-residual.ensures.1 in
+pub returns-in_err-check_linked : goal.returns-in_err-check_linked
+returns-in_err-check_linked c =
+    let p = err_from_is_err_and c.from_residual.result c.from_residual.ensures.1 in
     record {
-      value = handed_on _ _ c.args.summands.now c.args.links.now _ _ _ p.1 p.2 c.in-err-check-linked.ensures.value;
+      value = handed_on _ _ c.args.summands.now c.args.links.now _ _ _ p.1 p.2 c.in_err-check_linked.ensures.value;
       law = linked_judged _ _ _ _;
       after = search rules;
     }
 
-pub returns-in-err-distances : goal.returns-in-err-distances
-returns-in-err-distances c =
+pub returns-in_err-distances : goal.returns-in_err-distances
+returns-in_err-distances c =
     absurd
-    (links_not_refused c.args.columns c.args.total c.args.summands.now c.args.links.now _ c.in-ok-check-linked.ensures.value c.in-err-distances.ensures)
+    (links_not_refused c.args.columns c.args.total c.args.summands.now c.args.links.now _ c.in_ok-check_linked.ensures.value c.in_err-distances.ensures)
 
-pub returns-in-err-set : goal.returns-in-err-set
-returns-in-err-set c =
+pub returns-in_err-set : goal.returns-in_err-set
+returns-in_err-set c =
     absurd
-    (sum_not_refused c.args.columns c.args.total c.args.summands.now c.args.links.now _ c.in-ok-check-linked.ensures.value
-    (answer_err _ _ (sym c.in-err-set.ensures.value)))
+    (sum_not_refused c.args.columns c.args.total c.args.summands.now c.args.links.now _ c.in_ok-check_linked.ensures.value
+    (answer_err _ _ (sym c.in_err-set.ensures.value)))
 
 pub stored-links-requires : goal.stored-links-requires
 stored-links-requires c =
     let k = c.args.columns in
     let ls = c.args.links.now in
     (links_taken k ls
-    (links_accepted k c.args.total c.args.summands.now ls (entries_taken k c.args.total c.args.summands.now ls c.in-ok-check-linked.ensures.value))).fit
+    (links_accepted k c.args.total c.args.summands.now ls (entries_taken k c.args.total c.args.summands.now ls c.in_ok-check_linked.ensures.value))).fit
 
-pub invariant-of-self : goal.invariant-of-self
-invariant-of-self c =
+pub invariant_of-self : goal.invariant_of-self
+invariant_of-self c =
     let k = c.args.columns in
     let t = c.args.total in
     let ss = c.args.summands.now in
     let ls = c.args.links.now in
-    let o = c.in-ok-distances.distances in
-    let s = sound_row k t ss ls c.set.new.self _ o c.in-ok-set.ensures.after c.stored-links.ensures
-    (sound_set k t ss ls o c.in-ok-check-linked.ensures.value c.in-ok-distances.ensures) in
-    ((λ _. ok_if_none _ s.entries), ((λ _. s.rings), ((λ _. s.untied), ((λ _. s.wide), ((λ _. s.same), tt)))))
+    let o = c.in_ok-distances.distances in
+    let s = sound_row k t ss ls c.set.new.self _ o c.in_ok-set.ensures.after c.stored-links.ensures
+    (sound_set k t ss ls o c.in_ok-check_linked.ensures.value c.in_ok-distances.ensures) in
+    record {
+      entries = λ _. ok_if_none _ s.entries;
+      rings = λ _. s.rings;
+      untied = λ _. s.untied;
+      wide = λ _. s.wide;
+      same = λ _. s.same;
+    }
 
 pub returns : goal.returns
 returns c =
     record {
-      value = c.in-ok-check-linked.ensures.value;
+      value = c.in_ok-check_linked.ensures.value;
       law = linked_judged _ _ _ _;
-      after = linked_held _ _ _ _ c.set.new.self _ c.in-ok-set.ensures.after c.stored-links.ensures;
+      after = linked_held _ _ _ _ c.set.new.self _ c.in_ok-set.ensures.after c.stored-links.ensures;
     }

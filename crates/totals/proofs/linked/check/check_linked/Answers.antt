@@ -15,7 +15,7 @@ pub returns-in-Some : goal.returns-in-Some
 returns-in-Some c =
     record {
       value = checked_entries _ _ _ _ _
-          (by_absent _ _ c.args.summands.now c.args.links.now (c.if-columns-lt1.false, c.if-columns-gt-MOST-COLUMNS.false) (Some c.in-Some.at) (sym c.in-Some.ensures));
+          (by_absent _ _ c.args.summands.now c.args.links.now (c.if-columns-lt1.false, c.if-columns-gt-MOST_COLUMNS.false) (Some c.in-Some.at) (sym c.in-Some.ensures));
       law = linked_judged _ _ _ _;
     }
 
@@ -23,52 +23,52 @@ pub returns-then-summands-lt1 : goal.returns-then-summands-lt1
 returns-then-summands-lt1 c =
     record {
       value = checked_entries _ _ _ _ _
-          (by_length _ _ c.args.summands.now c.args.links.now (c.if-columns-lt1.false, c.if-columns-gt-MOST-COLUMNS.false) (sym c.in-default.ensures) c.then-summands-lt1.either);
+          (by_length _ _ c.args.summands.now c.args.links.now (c.if-columns-lt1.false, c.if-columns-gt-MOST_COLUMNS.false) (sym c.in_default.ensures) c.then-summands-lt1.either);
       law = linked_judged _ _ _ _;
     }
 
-pub first-repeated-requires : goal.first-repeated-requires
-first-repeated-requires c =
-    let w : Counted c.args.columns = (c.if-columns-lt1.false, c.if-columns-gt-MOST-COLUMNS.false) in
-    let none = sym c.in-default.ensures in
+pub first_repeated-requires : goal.first_repeated-requires
+first_repeated-requires c =
+    let w : Counted c.args.columns = (c.if-columns-lt1.false, c.if-columns-gt-MOST_COLUMNS.false) in
+    let none = sym c.in_default.ensures in
     record {
       total = total_there _ _ c.args.summands.now c.args.links.now w none;
       there = summands_there _ c.args.total c.args.summands.now c.args.links.now w none;
     }
 
-pub returns-in-Some-first-repeated : goal.returns-in-Some-first-repeated
-returns-in-Some-first-repeated c =
+pub returns-in-Some-first_repeated : goal.returns-in-Some-first_repeated
+returns-in-Some-first_repeated c =
     record {
       value = checked_entries _ _ _ _ _
-          (by_repeated _ _ c.args.summands.now c.args.links.now (c.if-columns-lt1.false, c.if-columns-gt-MOST-COLUMNS.false) (sym c.in-default.ensures)
-          (record { some = c.if-summands-lt1.false; few = c.if-summands-gt-MOST-SUMMANDS.false; links = c.if-links-gt-MOST-LINKS.false })
-          (Some c.in-Some-first-repeated.at)
-          (sym c.in-Some-first-repeated.ensures));
+          (by_repeated _ _ c.args.summands.now c.args.links.now (c.if-columns-lt1.false, c.if-columns-gt-MOST_COLUMNS.false) (sym c.in_default.ensures)
+          (record { some = c.if-summands-lt1.false; few = c.if-summands-gt-MOST_SUMMANDS.false; links = c.if-links-gt-MOST_LINKS.false })
+          (Some c.in-Some-first_repeated.at)
+          (sym c.in-Some-first_repeated.ensures));
       law = linked_judged _ _ _ _;
     }
 
-pub overflow-add-result-in-Some-first-failing : goal.overflow-add-result-in-Some-first-failing
-overflow-add-result-in-Some-first-failing c =
-    let low = first_within bounded c.args.links.now c.in-Some-first-failing.at (sym c.in-Some-first-failing.ensures) in
+pub overflow_add-result-in-Some-first_failing : goal.overflow_add-result-in-Some-first_failing
+overflow_add-result-in-Some-first_failing c =
+    let low = first_within bounded c.args.links.now c.in-Some-first_failing.at (sym c.in-Some-first_failing.ensures) in
     search rules
 
-pub returns-in-Some-first-failing : goal.returns-in-Some-first-failing
-returns-in-Some-first-failing c =
+pub returns-in-Some-first_failing : goal.returns-in-Some-first_failing
+returns-in-Some-first_failing c =
     record {
       value = checked_entries _ _ _ _ _
-          (by_bounds _ _ c.args.summands.now c.args.links.now (c.if-columns-lt1.false, c.if-columns-gt-MOST-COLUMNS.false) (sym c.in-default.ensures)
-          (record { some = c.if-summands-lt1.false; few = c.if-summands-gt-MOST-SUMMANDS.false; links = c.if-links-gt-MOST-LINKS.false })
-          (sym c.in-default-first-repeated.ensures)
-          (Some c.in-Some-first-failing.at)
-          (sym c.in-Some-first-failing.ensures));
+          (by_bounds _ _ c.args.summands.now c.args.links.now (c.if-columns-lt1.false, c.if-columns-gt-MOST_COLUMNS.false) (sym c.in_default.ensures)
+          (record { some = c.if-summands-lt1.false; few = c.if-summands-gt-MOST_SUMMANDS.false; links = c.if-links-gt-MOST_LINKS.false })
+          (sym c.in_default-first_repeated.ensures)
+          (Some c.in-Some-first_failing.at)
+          (sym c.in-Some-first_failing.ensures));
       law = linked_judged _ _ _ _;
     }
 
 pub returns : goal.returns
 returns c =
-    let none = by_bounds c.args.columns c.args.total c.args.summands.now c.args.links.now (c.if-columns-lt1.false, c.if-columns-gt-MOST-COLUMNS.false) (sym c.in-default.ensures)
-    (record { some = c.if-summands-lt1.false; few = c.if-summands-gt-MOST-SUMMANDS.false; links = c.if-links-gt-MOST-LINKS.false })
-    (sym c.in-default-first-repeated.ensures)
+    let none = by_bounds c.args.columns c.args.total c.args.summands.now c.args.links.now (c.if-columns-lt1.false, c.if-columns-gt-MOST_COLUMNS.false) (sym c.in_default.ensures)
+    (record { some = c.if-summands-lt1.false; few = c.if-summands-gt-MOST_SUMMANDS.false; links = c.if-links-gt-MOST_LINKS.false })
+    (sym c.in_default-first_repeated.ensures)
     None
-    (sym c.in-default-first-failing.ensures) in
-    record { value = checked_rings _ _ _ _ none _ c.check-rings.ensures; law = linked_judged _ _ _ _ }
+    (sym c.in_default-first_failing.ensures) in
+    record { value = checked_rings _ _ _ _ none _ c.check_rings.ensures; law = linked_judged _ _ _ _ }

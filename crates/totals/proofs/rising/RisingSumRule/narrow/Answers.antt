@@ -7,24 +7,24 @@ use Rattle.totals.proofs.Chained.{rising_meets, chain_closed}
 use Rattle.totals.proofs.Rows.{row_fresh, row_given, row_narrowed, columns_of}
 use Rattle.totals.proofs.rising.RisingSumRule.narrow.Goals as goal
 
-pub returns-then-not-is-set : goal.returns-then-not-is-set
-returns-then-not-is-set c =
-    let ok = answer_ok _ (sym c.in-ok-check-windows.ensures.value) in
+pub returns-then-not-is_set : goal.returns-then-not-is_set
+returns-then-not-is_set c =
+    let ok = answer_ok _ (sym c.in_ok-check_windows.ensures.value) in
     record {
       same = refl;
-      outcome = row_fresh rising_sum c.args.self.now.terms c.width.result c.args.windows.now c.width.ensures ok (sym c.if-not-is-set.ensures);
+      outcome = row_fresh rising_sum c.args.self.now.terms c.width.result c.args.windows.now c.width.ensures ok (sym c.if-not-is_set.ensures);
     }
 
 pub of-requires : goal.of-requires
 of-requires c =
-    let g = row_given rising_sum c.args.self.now.terms c.width.result c.args.windows.now c.width.ensures (answer_ok _ (sym c.in-ok-check-windows.ensures.value))
-    (sym c.if-not-is-set.ensures) in
+    let g = row_given rising_sum c.args.self.now.terms c.width.result c.args.windows.now c.width.ensures (answer_ok _ (sym c.in_ok-check_windows.ensures.value))
+    (sym c.if-not-is_set.ensures) in
     record { some = g.taken.some; few = g.taken.few; there = g.taken.columns; short = g.taken.fit; distinct = summands_apart c.args.self.now.terms.total (row_summands c.args.self.now.terms) g.taken.distinct }
 
-pub trim-total-requires : goal.trim-total-requires
-trim-total-requires c =
-    let g = row_given rising_sum c.args.self.now.terms c.width.result c.args.windows.now c.width.ensures (answer_ok _ (sym c.in-ok-check-windows.ensures.value))
-    (sym c.if-not-is-set.ensures) in
+pub trim_total-requires : goal.trim_total-requires
+trim_total-requires c =
+    let g = row_given rising_sum c.args.self.now.terms c.width.result c.args.windows.now c.width.ensures (answer_ok _ (sym c.in_ok-check_windows.ensures.value))
+    (sym c.if-not-is_set.ensures) in
     record {
       width = g.long ∙ sym c.of.ensures.width;
       closed = chain_closed c.of.result.places _;
@@ -37,13 +37,13 @@ trim-total-requires c =
 
 pub returns : goal.returns
 returns c =
-    let ok = answer_ok _ (sym c.in-ok-check-windows.ensures.value) in
-    let g = row_given rising_sum c.args.self.now.terms c.width.result c.args.windows.now c.width.ensures (answer_ok _ (sym c.in-ok-check-windows.ensures.value))
-    (sym c.if-not-is-set.ensures) in
+    let ok = answer_ok _ (sym c.in_ok-check_windows.ensures.value) in
+    let g = row_given rising_sum c.args.self.now.terms c.width.result c.args.windows.now c.width.ensures (answer_ok _ (sym c.in_ok-check_windows.ensures.value))
+    (sym c.if-not-is_set.ensures) in
     record {
       same = refl;
       outcome =
           row_narrowed rising_sum c.args.self.now.terms c.width.result c.args.windows.now c.width.ensures ok g _ _
           (rising_meets c.args.self.now.terms.columns c.args.self.now.terms.total (row_summands c.args.self.now.terms) c.of.result.places g.taken.few g.taken.fit g.taken.total g.taken.columns g.taken.distinct c.of.ensures.placed)
-          c.trim-total.result c.trim-total.new.windows c.trim-total.ensures;
+          c.trim_total.result c.trim_total.new.windows c.trim_total.ensures;
     }

@@ -6,24 +6,24 @@ use Rattle.totals.proofs.Plain.{plain_meets, unlinked_closed}
 use Rattle.totals.proofs.Rows.{row_fresh, row_given, row_narrowed, columns_of}
 use Rattle.totals.proofs.sum.SumRule.narrow.Goals as goal
 
-pub returns-then-not-is-set : goal.returns-then-not-is-set
-returns-then-not-is-set c =
-    let ok = answer_ok _ (sym c.in-ok-check-windows.ensures.value) in
+pub returns-then-not-is_set : goal.returns-then-not-is_set
+returns-then-not-is_set c =
+    let ok = answer_ok _ (sym c.in_ok-check_windows.ensures.value) in
     record {
       same = refl;
-      outcome = row_fresh sums c.args.self.now.terms c.width.result c.args.windows.now c.width.ensures ok (sym c.if-not-is-set.ensures);
+      outcome = row_fresh sums c.args.self.now.terms c.width.result c.args.windows.now c.width.ensures ok (sym c.if-not-is_set.ensures);
     }
 
 pub of-requires : goal.of-requires
 of-requires c =
-    let g = row_given sums c.args.self.now.terms c.width.result c.args.windows.now c.width.ensures (answer_ok _ (sym c.in-ok-check-windows.ensures.value))
-    (sym c.if-not-is-set.ensures) in
+    let g = row_given sums c.args.self.now.terms c.width.result c.args.windows.now c.width.ensures (answer_ok _ (sym c.in_ok-check_windows.ensures.value))
+    (sym c.if-not-is_set.ensures) in
     record { some = g.taken.some; few = g.taken.few }
 
-pub trim-total-requires : goal.trim-total-requires
-trim-total-requires c =
-    let g = row_given sums c.args.self.now.terms c.width.result c.args.windows.now c.width.ensures (answer_ok _ (sym c.in-ok-check-windows.ensures.value))
-    (sym c.if-not-is-set.ensures) in
+pub trim_total-requires : goal.trim_total-requires
+trim_total-requires c =
+    let g = row_given sums c.args.self.now.terms c.width.result c.args.windows.now c.width.ensures (answer_ok _ (sym c.in_ok-check_windows.ensures.value))
+    (sym c.if-not-is_set.ensures) in
     record {
       width = g.long ∙ sym c.of.ensures;
       closed = unlinked_closed _;
@@ -36,13 +36,13 @@ trim-total-requires c =
 
 pub returns : goal.returns
 returns c =
-    let ok = answer_ok _ (sym c.in-ok-check-windows.ensures.value) in
-    let g = row_given sums c.args.self.now.terms c.width.result c.args.windows.now c.width.ensures (answer_ok _ (sym c.in-ok-check-windows.ensures.value))
-    (sym c.if-not-is-set.ensures) in
+    let ok = answer_ok _ (sym c.in_ok-check_windows.ensures.value) in
+    let g = row_given sums c.args.self.now.terms c.width.result c.args.windows.now c.width.ensures (answer_ok _ (sym c.in_ok-check_windows.ensures.value))
+    (sym c.if-not-is_set.ensures) in
     record {
       same = refl;
       outcome =
           row_narrowed sums c.args.self.now.terms c.width.result c.args.windows.now c.width.ensures ok g _ _
           (plain_meets c.args.self.now.terms.columns c.args.self.now.terms.total (row_summands c.args.self.now.terms) g.taken.total g.taken.columns g.taken.distinct)
-          c.trim-total.result c.trim-total.new.windows c.trim-total.ensures;
+          c.trim_total.result c.trim_total.new.windows c.trim_total.ensures;
     }

@@ -6,17 +6,17 @@ use Rattle.totals.proofs.linked.rule.LinkedSumRule.narrow.Goals as goal
 from_start : (xs : List ℕ) (n : ℕ) → take (n - 0) xs ≡ take n xs
 from_start xs n = ap (λ (m : ℕ). take m xs) (omega arith)
 
-pub returns-then-not-is-set : goal.returns-then-not-is-set
-returns-then-not-is-set c =
+pub returns-then-not-is_set : goal.returns-then-not-is_set
+returns-then-not-is_set c =
     record {
       same = refl;
-      outcome = unset_narrowed c.args.self.now c.args.windows.now c.width.result c.width.ensures c.in-ok-check-windows.ensures.value false c.if-not-is-set.ensures refl;
+      outcome = unset_narrowed c.args.self.now c.args.windows.now c.width.result c.width.ensures c.in_ok-check_windows.ensures.value false c.if-not-is_set.ensures refl;
     }
 
-pub trim-total-requires : goal.trim-total-requires
-trim-total-requires c =
+pub trim_total-requires : goal.trim_total-requires
+trim_total-requires c =
     let r = c.args.self.now in
-    let asked = ready r c.args.windows.now c.width.result c.width.ensures c.in-ok-check-windows.ensures.value true c.if-not-is-set.ensures refl c.in-Some.distances c.in-Some.is _ (from_start r.terms.summands r.terms.count) in
+    let asked = ready r c.args.windows.now c.width.result c.width.ensures c.in_ok-check_windows.ensures.value true c.if-not-is_set.ensures refl c.in-Some.distances c.in-Some.is _ (from_start r.terms.summands r.terms.count) in
     record {
       width = asked.width;
       closed = asked.closed;
@@ -31,7 +31,7 @@ pub returns-in-None : goal.returns-in-None
 returns-in-None c =
     record {
       same = refl;
-      outcome = void_narrowed c.args.self.now c.args.windows.now c.width.result c.width.ensures c.in-ok-check-windows.ensures.value true c.if-not-is-set.ensures refl c.in-None.is;
+      outcome = void_narrowed c.args.self.now c.args.windows.now c.width.result c.width.ensures c.in_ok-check_windows.ensures.value true c.if-not-is_set.ensures refl c.in-None.is;
     }
 
 pub returns-in-Some : goal.returns-in-Some
@@ -39,5 +39,5 @@ returns-in-Some c =
     let r = c.args.self.now in
     record {
       same = refl;
-      outcome = table_narrowed r c.args.windows.now c.width.result c.width.ensures c.in-ok-check-windows.ensures.value true c.if-not-is-set.ensures refl c.in-Some.distances c.in-Some.is _ (from_start r.terms.summands r.terms.count) c.trim-total.result c.trim-total.new.windows c.trim-total.ensures;
+      outcome = table_narrowed r c.args.windows.now c.width.result c.width.ensures c.in_ok-check_windows.ensures.value true c.if-not-is_set.ensures refl c.in-Some.distances c.in-Some.is _ (from_start r.terms.summands r.terms.count) c.trim_total.result c.trim_total.new.windows c.trim_total.ensures;
     }
