@@ -12,8 +12,8 @@ mod links;
 mod outcome;
 mod plans;
 mod random;
+mod sums;
 mod table;
-mod totals;
 mod windows;
 mod words;
 
@@ -26,7 +26,7 @@ fn run(rt: &HostRuntime) -> io::Result<u64> {
     let mut checks = Checks::none(rt);
     links::check(&mut checks)?;
     apart::check(&mut checks)?;
-    totals::check(&mut checks)?;
+    sums::check(&mut checks)?;
     checks.conclude()
 }
 

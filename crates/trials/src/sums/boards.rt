@@ -4,7 +4,7 @@ use crate::board;
 use crate::checks::Checks;
 use crate::compare::{BOARDS, Claim, Comparison};
 use crate::random::Random;
-use crate::totals::words::SumWords;
+use crate::sums::words::SumWords;
 use rules::Window;
 use std::alloc::{AllocError, Global};
 use std::io;
