@@ -1,5 +1,5 @@
 -- What a closed table of walks tells of rings and ties.
-use Rattle.std.proofs.Common.{◌≡◌, ℕ, zero, suc, ◌+◌, ◌<◌, Bool, true, false, not, ◌&&◌, eqb, List, [], ◌∷◌, ℤ, pos, ◌+ℤ◌, nat_abs, ◌≤ℤ◌, ◌<ℤ◌, is_some as option_is_some, Some, None, Option, sym, refl, ap, ◌∙◌, subst, ⊎_elim, add-one, arith}
+use Rattle.std.proofs.Common.{◌≡◌, ℕ, zero, suc, ◌+◌, ◌<◌, Bool, true, false, not, ◌&&◌, eqb, List, [], ◌∷◌, ℤ, pos, ◌+ℤ◌, nat_abs, ◌≤ℤ◌, ◌<ℤ◌, is_some, Some, None, Option, sym, refl, ap, ◌∙◌, subst, ⊎_elim, add-one, arith}
 use Rattle.std.specs.List.{ContainsAt as Has}
 use Rattle.std.proofs.lemmas.Int.{ints, by_lt_z}
 use Rattle.std.proofs.lemmas.Bool.{cases_eq, eqb-true, eq-eqb, or_cases, or_left, or_right, or_from, and_parts, and_from, both_ways, not-true, not_from_false, eqb-false, ne_eqb}
@@ -52,16 +52,16 @@ zero_from (Some u) (Some v) x y e f s =
     rw r
 
 module _ (k : ℕ) (links : List Link) (good : (l : Link) → Has links l → (l.right < k) × (l.left < k)) (d : ℕ → ℕ → Option ℤ) (w : Walks k links k d) where
-  first_link : (i : ℕ) (l : Link) → Has links l → l.right ≡ i → option_is_some (d i l.left) ≡ true
-  first_link i l a e = subst (λ (n : ℕ). option_is_some (d n l.left) ≡ true) e (most_some _ _ (w.single l a))
+  first_link : (i : ℕ) (l : Link) → Has links l → l.right ≡ i → is_some (d i l.left) ≡ true
+  first_link i l a e = subst (λ (n : ℕ). is_some (d n l.left) ≡ true) e (most_some _ _ (w.single l a))
 
   ends : (i j : ℕ) (l : Link) (v : List Link) → IsWalk links i j (l ∷ v) → j < k
   ends i j l [] p = subst (λ (n : ℕ). n < k) p.2 (good l p.0).1
   ends i j l (l' ∷ v) p = ends l.left j l' v p.2
 
   -- a walk that is not empty has an entry
-  walk_some : (i j : ℕ) → i < k → (l : Link) (v : List Link) → IsWalk links i j (l ∷ v) → option_is_some (d i j) ≡ true
-  walk_some i j hi l [] p = subst (λ (n : ℕ). option_is_some (d i n) ≡ true) p.2 (first_link i l p.0 p.1)
+  walk_some : (i j : ℕ) → i < k → (l : Link) (v : List Link) → IsWalk links i j (l ∷ v) → is_some (d i j) ≡ true
+  walk_some i j hi l [] p = subst (λ (n : ℕ). is_some (d i n) ≡ true) p.2 (first_link i l p.0 p.1)
   walk_some i j hi l (l' ∷ v) p =
       let h = good l p.0 in
       w.reach i l.left j hi h.1 (ends l.left j l' v p.2) h.1 (first_link i l p.0 p.1) (walk_some l.left j h.1 l' v p.2)
@@ -89,9 +89,9 @@ module _ (k : ℕ) (links : List Link) (good : (l : Link) → Has links l → (l
       go [] p = subst (λ (n : ℕ). reaches d c n ≡ true) p h
       go (l ∷ x) p =
           ⊎_elim
-          (λ e. or_right (eqb c j) (option_is_some (d c j)) (subst (λ (n : ℕ). option_is_some (d n j) ≡ true) (sym (eqb-true c i e)) (walk_some i j hi l x p)))
-          (λ e. or_right (eqb c j) (option_is_some (d c j)) (w.reach c i j hc hi (ends i j l x p) hi e (walk_some i j hi l x p)))
-          (or_cases (eqb c i) (option_is_some (d c i)) h)
+          (λ e. or_right (eqb c j) (is_some (d c j)) (subst (λ (n : ℕ). is_some (d n j) ≡ true) (sym (eqb-true c i e)) (walk_some i j hi l x p)))
+          (λ e. or_right (eqb c j) (is_some (d c j)) (w.reach c i j hc hi (ends i j l x p) hi e (walk_some i j hi l x p)))
+          (or_cases (eqb c i) (is_some (d c i)) h)
 
   reach_to : (c i j : ℕ) → c < k → i < k → j < k → (v : ℤ) → Walk links i j v → reaches d j c ≡ true → reaches d i c ≡ true
   reach_to c i j hc hi hj v r h = go r.along r.leads
@@ -100,9 +100,9 @@ module _ (k : ℕ) (links : List Link) (good : (l : Link) → Has links l → (l
       go [] p = subst (λ (n : ℕ). reaches d n c ≡ true) (sym p) h
       go (l ∷ x) p =
           ⊎_elim
-          (λ e. or_right (eqb i c) (option_is_some (d i c)) (subst (λ (n : ℕ). option_is_some (d i n) ≡ true) (eqb-true j c e) (walk_some i j hi l x p)))
-          (λ e. or_right (eqb i c) (option_is_some (d i c)) (w.reach i j c hi hj hc hj (walk_some i j hi l x p) e))
-          (or_cases (eqb j c) (option_is_some (d j c)) h)
+          (λ e. or_right (eqb i c) (is_some (d i c)) (subst (λ (n : ℕ). is_some (d i n) ≡ true) (eqb-true j c e) (walk_some i j hi l x p)))
+          (λ e. or_right (eqb i c) (is_some (d i c)) (w.reach i j c hi hj hc hj (walk_some i j hi l x p) e))
+          (or_cases (eqb j c) (is_some (d j c)) h)
 
   -- the columns that c reaches and that reach c
   abbrev with : ℕ → ℕ → Bool
@@ -117,7 +117,7 @@ module _ (k : ℕ) (links : List Link) (good : (l : Link) → Has links l → (l
   }
 
   self : (c : ℕ) → with c c ≡ true
-  self c = let e = eq-eqb c c refl in and_from _ _ (or_left (eqb c c) (option_is_some (d c c)) e) (or_left (eqb c c) (option_is_some (d c c)) e)
+  self c = let e = eq-eqb c c refl in and_from _ _ (or_left (eqb c c) (is_some (d c c)) e) (or_left (eqb c c) (is_some (d c c)) e)
 
   below_test : (v : ℤ) (o : Option ℤ) → o ≡ Some v → (negative o ≡ true → ⊥) → pos 0 ≤ℤ v
   below_test v None e h = let z : ◌≡◌ {A = ℕ} 0 1 = cc in absurd (omega arith)
@@ -148,7 +148,7 @@ module _ (k : ℕ) (links : List Link) (good : (l : Link) → Has links l → (l
       ⊎_elim
       (λ e. (pos 0, record { along = []; leads = eqb-true i j e; long = refl }))
       (λ e. let (v, q) = some_is (d i j) e in (v, w.sound i j hi hj v q))
-      (or_cases (eqb i j) (option_is_some (d i j)) h)
+      (or_cases (eqb i j) (is_some (d i j)) h)
 
   -- and where one does, round it often enough, there and back, is a ring below 0 through c
   pub ring : (c : ℕ) → c < k → on_ring_below k d c ≡ true → RingBelow links c

@@ -1,5 +1,5 @@
 -- One step of the closing of a table of walks.
-use Rattle.std.proofs.Common.{◌≡◌, ℕ, ◌+◌, ◌<◌, Bool, true, ◌⊎◌, List, [], ◌∷◌, ◌++◌, ℤ, ◌+ℤ◌, ◌≤ℤ◌, is_some as option_is_some, Some, None, Option, sym, refl, ap, ◌∙◌, subst, inl, inr, ⊎_elim, arith}
+use Rattle.std.proofs.Common.{◌≡◌, ℕ, ◌+◌, ◌<◌, Bool, true, ◌⊎◌, List, [], ◌∷◌, ◌++◌, ℤ, ◌+ℤ◌, ◌≤ℤ◌, is_some, Some, None, Option, sym, refl, ap, ◌∙◌, subst, inl, inr, ⊎_elim, arith}
 use Rattle.std.specs.Int.{int_min}
 use Rattle.std.proofs.lemmas.Int.{ints, clamps, by_lt_z}
 use Rattle.std.proofs.lemmas.Bool.{cases_eq}
@@ -30,12 +30,12 @@ clash v e = let z : ◌≡◌ {A = ℕ} 0 1 = cc in absurd (omega arith)
 min_either : (a b : ℤ) → (int_min a b ≡ a) ⊎ (int_min a b ≡ b)
 min_either a b = by_lt_z b a (λ l. inr (grind (arith, ints, clamps))) (λ l. inl (grind (arith, ints, clamps)))
 
-pub some_is : (o : Option ℤ) → option_is_some o ≡ true → (v : ℤ) × (o ≡ Some v)
+pub some_is : (o : Option ℤ) → is_some o ≡ true → (v : ℤ) × (o ≡ Some v)
 some_is None h = grind arith
 some_is (Some v) h = (v, refl)
 
-pub is_some : (o : Option ℤ) (v : ℤ) → o ≡ Some v → option_is_some o ≡ true
-is_some o v e = ap option_is_some e
+pub is_some_from : (o : Option ℤ) (v : ℤ) → o ≡ Some v → is_some o ≡ true
+is_some_from o v e = ap is_some e
 
 pub most_is : (o : Option ℤ) (z : ℤ) → AtMost o z → (v : ℤ) × (o ≡ Some v) × (v ≤ℤ z)
 most_is None z h = absurd h
@@ -44,7 +44,7 @@ most_is (Some v) z h = (v, refl, h)
 pub is_most : (o : Option ℤ) (v z : ℤ) → o ≡ Some v → v ≤ℤ z → AtMost o z
 is_most o v z e h = subst (λ (p : Option ℤ). AtMost p z) (sym e) h
 
-pub most_some : (o : Option ℤ) (z : ℤ) → AtMost o z → option_is_some o ≡ true
+pub most_some : (o : Option ℤ) (z : ℤ) → AtMost o z → is_some o ≡ true
 most_some None z h = absurd h
 most_some (Some v) z h = refl
 
@@ -103,30 +103,30 @@ module _ (k : ℕ) (links : List Link) (m : ℕ) (hm : m < k) (d e : ℕ → ℕ
   was_from_m : (j : ℕ) → j < k → (v : ℤ) → e m j ≡ Some v → (x : ℤ) × (d m j ≡ Some x)
   was_from_m j hj v h = ⊎_elim (λ p. (v, p)) (λ (x, y, p, q, s). (y, q)) (from m j hm hj v h)
 
-  some_by_m : (i j : ℕ) → i < k → j < k → (x y : ℤ) → d i m ≡ Some x → d m j ≡ Some y → option_is_some (e i j) ≡ true
+  some_by_m : (i j : ℕ) → i < k → j < k → (x y : ℤ) → d i m ≡ Some x → d m j ≡ Some y → is_some (e i j) ≡ true
   some_by_m i j hi hj x y p q = most_some (e i j) (x +ℤ y) (by_m i j hi hj x y p q)
 
-  some_kept : (i j : ℕ) → i < k → j < k → option_is_some (d i j) ≡ true → option_is_some (e i j) ≡ true
+  some_kept : (i j : ℕ) → i < k → j < k → is_some (d i j) ≡ true → is_some (e i j) ≡ true
   some_kept i j hi hj h = let (v, p) = some_is (d i j) h in most_some (e i j) v (kept i j hi hj v p)
 
-  reach_below : (i n j : ℕ) → i < k → n < k → j < k → n < m → (a b : ℤ) → e i n ≡ Some a → e n j ≡ Some b → option_is_some (e i j) ≡ true
+  reach_below : (i n j : ℕ) → i < k → n < k → j < k → n < m → (a b : ℤ) → e i n ≡ Some a → e n j ≡ Some b → is_some (e i j) ≡ true
   reach_below i n j hi hn hj l a b p q =
       ⊎_elim
       (λ ain. ⊎_elim
-      (λ bin. some_kept i j hi hj (w.reach i n j hi hn hj l (is_some _ _ ain) (is_some _ _ bin)))
+      (λ bin. some_kept i j hi hj (w.reach i n j hi hn hj l (is_some_from _ _ ain) (is_some_from _ _ bin)))
       (λ (x, y, f, g, s).
-      let (u, h) = some_is (d i m) (w.reach i n m hi hn hm l (is_some _ _ ain) (is_some _ _ f)) in
+      let (u, h) = some_is (d i m) (w.reach i n m hi hn hm l (is_some_from _ _ ain) (is_some_from _ _ f)) in
       some_by_m i j hi hj u y h g)
       (from n j hn hj b q))
       (λ (x, y, f, g, s). ⊎_elim
       (λ bin.
-      let (u, h) = some_is (d m j) (w.reach m n j hm hn hj l (is_some _ _ g) (is_some _ _ bin)) in
+      let (u, h) = some_is (d m j) (w.reach m n j hm hn hj l (is_some_from _ _ g) (is_some_from _ _ bin)) in
       some_by_m i j hi hj x u f h)
       (λ (x', y', f', g', s'). some_by_m i j hi hj x y' f g')
       (from n j hn hj b q))
       (from i n hi hn a p)
 
-  reach : (i n j : ℕ) → i < k → n < k → j < k → n < m + 1 → option_is_some (e i n) ≡ true → option_is_some (e n j) ≡ true → option_is_some (e i j) ≡ true
+  reach : (i n j : ℕ) → i < k → n < k → j < k → n < m + 1 → is_some (e i n) ≡ true → is_some (e n j) ≡ true → is_some (e i j) ≡ true
   reach i n j hi hn hj l p q =
       let (a, f) = some_is (e i n) p in
       let (b, g) = some_is (e n j) q in

@@ -69,13 +69,13 @@ ring_by d i j = (reaches d i j && reaches d j i) && negative (d j j)
 abbrev pub on_ring_below : ℕ → (ℕ → ℕ → Option ℤ) → ℕ → Bool
 on_ring_below k d i = any_below k (ring_by d i)
 
-abbrev pub int_eq : ℤ → ℤ → Bool
-int_eq a b = int_le a b && int_le b a
+abbrev pub is_equal : ℤ → ℤ → Bool
+is_equal a b = int_le a b && int_le b a
 
 abbrev pub zero_sum : Option ℤ → Option ℤ → Bool
 zero_sum None b = false
 zero_sum (Some x) None = false
-zero_sum (Some x) (Some y) = int_eq (x +ℤ y) (pos 0)
+zero_sum (Some x) (Some y) = is_equal (x +ℤ y) (pos 0)
 
 -- two different columns, and there and back is 0
 abbrev pub shows_tie : (ℕ → ℕ → Option ℤ) → ℕ → ℕ → Bool

@@ -106,8 +106,8 @@ module _ (ws : List Window) (ss : List ℕ) (row : List ℤ) (lawful : all_lawfu
     bottoms_sum = bottoms_to (length ss) (omega arith)
 
 -- what is left of a column, in the numbers of the code
-pub cut-total : (d : ℕ → ℕ → ℤ) (ws : List Window) (t : ℕ) (ss : List ℕ) (j : ℕ) (low high low' high' : ℤ) → j ≡ t → low' ≡ low → high' ≡ high → CutAt d ws t ss j low high (record { first = low'; last = high' })
-cut-total d ws t ss j low high low' high' e p q = record { at_total = λ _ i. record { first = p i; last = q i }; cut = λ ne. absurd (ne e) }
+pub cut_total : (d : ℕ → ℕ → ℤ) (ws : List Window) (t : ℕ) (ss : List ℕ) (j : ℕ) (low high low' high' : ℤ) → j ≡ t → low' ≡ low → high' ≡ high → CutAt d ws t ss j low high (record { first = low'; last = high' })
+cut_total d ws t ss j low high low' high' e p q = record { at_total = λ _ i. record { first = p i; last = q i }; cut = λ ne. absurd (ne e) }
 
 pub cut_other : (d : ℕ → ℕ → ℤ) (ws : List Window) (t : ℕ) (ss : List ℕ) (j : ℕ) (low high first first' last last' low' high' : ℤ) → (j ≡ t → ⊥)
     → FirstLeft d ws ss j low' first → LastLeft d ws ss j high' last → low' ≡ low → high' ≡ high → first' ≡ first → last' ≡ last → CutAt d ws t ss j low high (record { first = first'; last = last' })

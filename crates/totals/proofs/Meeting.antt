@@ -46,8 +46,8 @@ module _ (k : ℕ) (d : ℕ → ℕ → ℤ) (ms : List Window) (t : ℕ) (ss : 
       (λ a l. let o = ends.lasts.link j (column_at ss a) hj (there.there a l) in omega (arith, ints, clamps)) in
       omega (arith, ints, clamps)
 
-  pub least-at_first : (low high : ℤ) → low ≤ℤ high → low_of ms t ss ≤ℤ low → least_with d ms ss j (first_at ms j) ≤ℤ high
-  least-at_first low high le h =
+  pub least_at_first : (low high : ℤ) → low ≤ℤ high → low_of ms t ss ≤ℤ low → least_with d ms ss j (first_at ms j) ≤ℤ high
+  least_at_first low high le h =
       let m = sum_under (length ss) (λ a. int_max (first_at ms (column_at ss a)) (first_at ms j -ℤ d (column_at ss a) j)) (λ a. first_at ms (column_at ss a))
       (λ a l. let o = ends.firsts.link (column_at ss a) j (there.there a l) hj in omega (arith, ints, clamps)) in
       omega (arith, ints, clamps)

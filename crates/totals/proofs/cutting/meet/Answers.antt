@@ -1,6 +1,6 @@
 use Rattle.std.proofs.Common.{◌≤ℤ◌, refl, arith}
 use Rattle.std.proofs.lemmas.Int.{ints}
-use Rattle.totals.proofs.Meeting.{cutting_none, cutting_more, cutting_all, most_at_last, least-at_first}
+use Rattle.totals.proofs.Meeting.{cutting_none, cutting_more, cutting_all, most_at_last, least_at_first}
 use Rattle.totals.proofs.cutting.meet.Given as given
 use Rattle.totals.proofs.cutting.meet.Goals as goal
 
@@ -24,7 +24,7 @@ cut_at-requires g c =
       there = c.requires.there;
       here = c.loop-j-test.true;
       values = ((omega (arith, ints), omega (arith, ints)), (omega (arith, ints), omega (arith, ints)));
-      least = least-at_first _ d _ c.args.total _ c.requires.ends c.requires.there c.loop-j.j c.loop-j-test.true c.range-low.result.0 _ (omega (arith, ints)) (omega (arith, ints));
+      least = least_at_first _ d _ c.args.total _ c.requires.ends c.requires.there c.loop-j.j c.loop-j-test.true c.range-low.result.0 _ (omega (arith, ints)) (omega (arith, ints));
       most = most_at_last _ d _ c.args.total _ c.requires.ends c.requires.there c.loop-j.j c.loop-j-test.true _ c.range-low.result.1 (omega (arith, ints)) (omega (arith, ints));
     }
 
