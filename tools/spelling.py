@@ -1,7 +1,7 @@
 #!/usr/bin/env python3
 """Brings the names of this repository's own definitions and lemmas to the spelling of today's Rattle.
 
-usage: python3 tools/spelling.py          rewrites the files of crates/ and docs/ below the working folder
+usage: python3 tools/spelling.py          rewrites the files of crates/ and docs/ and README.md below the working folder
        python3 tools/spelling.py --list   prints old and new names, and changes nothing
 
 It is meant to run once, right after the kit's own script. Words are joined by `_`. A dash stays only in a lemma's name, and only
