@@ -24,9 +24,10 @@ pub struct QuarterHours {
 }
 
 impl QuarterHours {
-    /// One column, and every plan is allowed.
+    /// One column, and every plan is allowed. It was never asked.
     pub fn fresh() -> QuarterHours
-        ensures { quarter_meaning result.columns result.hours ≡ claims_nothing fresh_scope }
+        ensures meaning { quarter_meaning result.columns result.hours ≡ claims_nothing fresh_scope }
+        ensures note { result.asked ≡ 0 }
     {
         QuarterHours {
             columns: 1,
@@ -90,7 +91,13 @@ fn check_hours(columns: usize, column: usize, opens: u32, closes: u32) -> Result
 impl Rule for QuarterHours {
     ghost meaning = { λ s. quarter_meaning s.columns s.hours };
 
-    fn columns(&mut self) -> usize {
+    /// Beyond the interface it promises that the note stays.
+    fn columns(&mut self) -> usize
+        ensures same { quarter_meaning self.new.columns self.new.hours ≡ quarter_meaning self.old.columns self.old.hours }
+        ensures value { result ≡ self.old.columns }
+        ensures few { (1 ≤ result) × (result ≤ 32) }
+        ensures note { self.new.asked ≡ self.old.asked }
+    {
         self.columns
     }
 

@@ -1,7 +1,8 @@
 -- The table of walks: for two columns the length of a walk that leads from one to the other, or none.
-use Rattle.std.specs.Prelude.{◌≡◌, ℕ, zero, suc, ◌<◌, Bool, true, false, not, ◌&&◌, ◌||◌, List, [], ◌∷◌, ℤ, pos, negsuc, ◌+ℤ◌, ◌≤ℤ◌, is_some, Some, None, Option, ◌==◌, int_le, int_lt, nat_lt, slice_index_or}
+use Rattle.std.specs.Prelude.{◌≡◌, ℕ, zero, suc, ◌<◌, Bool, true, false, not, ◌&&◌, ◌||◌, List, [], ◌∷◌, ℤ, pos, negsuc, ◌+ℤ◌, ◌≤ℤ◌, is_some, Some, None, Option, ◌==◌, int_lt, nat_lt, slice_index_or}
 use Rattle.std.specs.Int.{int_min}
 use Rattle.std.specs.List.{ContainsAt as Has}
+use Rattle.std.specs.Ordering.{int_eq}
 use Rattle.differences.specs.declared.link.Link.{Link}
 use Rattle.rings.specs.Rings.{Walk}
 
@@ -69,13 +70,10 @@ ring_by d i j = (reaches d i j && reaches d j i) && negative (d j j)
 abbrev pub on_ring_below : ℕ → (ℕ → ℕ → Option ℤ) → ℕ → Bool
 on_ring_below k d i = any_below k (ring_by d i)
 
-abbrev pub is_equal : ℤ → ℤ → Bool
-is_equal a b = int_le a b && int_le b a
-
 abbrev pub zero_sum : Option ℤ → Option ℤ → Bool
 zero_sum None b = false
 zero_sum (Some x) None = false
-zero_sum (Some x) (Some y) = is_equal (x +ℤ y) (pos 0)
+zero_sum (Some x) (Some y) = int_eq (x +ℤ y) (pos 0)
 
 -- two different columns, and there and back is 0
 abbrev pub shows_tie : (ℕ → ℕ → Option ℤ) → ℕ → ℕ → Bool

@@ -1,14 +1,12 @@
 -- Sums of columns: which plans meet them, and what is refused of their entries. The entries are the total, then the summands.
-use Rattle.std.specs.Prelude.{◌≡◌, ℕ, suc, ◌<◌, ◌≤◌, Bool, true, false, cond, ◌&&◌, ◌||◌, List, [], ◌∷◌, length, ℤ, pos, ◌+ℤ◌, Some, None, Option, ◌==◌, ◌≢◌, int_le, nat_le, nat_lt, slice_index}
+use Rattle.std.specs.Prelude.{◌≡◌, ℕ, suc, ◌<◌, ◌≤◌, Bool, true, false, cond, ◌&&◌, ◌||◌, List, [], ◌∷◌, length, ℤ, pos, ◌+ℤ◌, Some, None, Option, ◌==◌, ◌≢◌, nat_le, nat_lt, slice_index}
 use Rattle.std.specs.Option.{option_map}
 use Rattle.std.specs.List.{AllWithin}
+use Rattle.std.specs.Ordering.{int_eq}
 use Rattle.rules.specs.declared.fault.Fault.{Fault}
 use Rattle.rules.specs.declared.fault.Fault.TheVariants.{ColumnCount, NoColumn, ListLength, ColumnTwice}
 use Rattle.rules.specs.Plans.{value_at}
 use Rattle.rules.specs.Refusals.{first_failing, First, unless, at_first, counted, Counted}
-
-abbrev pub is_equal : ℤ → ℤ → Bool
-is_equal a b = int_le a b && int_le b a
 
 -- the values of the columns added up
 abbrev pub added_up : List ℕ → List ℤ → ℤ
@@ -17,7 +15,7 @@ added_up (s ∷ ss) x = value_at x s +ℤ added_up ss x
 
 -- the total equals the summands added up
 abbrev pub sums : ℕ → List ℕ → List ℤ → Bool
-sums t ss x = is_equal (value_at x t) (added_up ss x)
+sums t ss x = int_eq (value_at x t) (added_up ss x)
 
 -- the column is there
 abbrev pub there : ℕ → ℕ → Bool

@@ -57,9 +57,9 @@ fn reach(tops: &Row, ways: &Row, n: usize, v: i32) -> Reached
 
 /// The least number of steps after which `moving` summands can make up the deficit.
 fn jump(deficit: u64, moving: u64) -> u64
-    requires short { 0 < deficit }
+    requires missing { 0 < deficit }
     requires near { deficit ≤ 10000000000 }
-    requires some { 0 < moving }
+    requires moving { 0 < moving }
     requires few { moving ≤ 31 }
     ensures some { 0 < result }
     ensures enough { deficit ≤ result * moving }
@@ -73,9 +73,9 @@ fn next(v: i32, last: i32, deficit: i64, moving: u64) -> i32
     requires value { Value v }
     requires last { Value last }
     requires order { v ≤ℤ last }
-    requires short { pos 0 <ℤ deficit }
+    requires missing { pos 0 <ℤ deficit }
     requires near { deficit ≤ℤ pos 10000000000 }
-    requires some { 0 < moving }
+    requires moving { 0 < moving }
     requires few { moving ≤ 31 }
     requires reached { deficit ≤ℤ pos (unsigned_abs (last -ℤ v) * moving) }
     ensures { Next v last deficit moving result }

@@ -9,7 +9,7 @@ returns c =
     let m = c.args.moving in
     let q = (d + m - 1) / m in
     let low = div-mul-le_self (d + m - 1) m in
-    let high : d + m - 1 < q * m + m = lt-div-mul-add c.requires.some in
+    let high : d + m - 1 < q * m + m = lt-div-mul-add c.requires.moving in
     record {
       some = ⊎_elim (λ h. h) (λ h. let z : q ≡ 0 = omega arith in let e = ap (λ (n : ℕ). n * m) z in let f = zero-mul m in absurd (omega (arith, c.requires))) (cases_lt 0 q);
       enough = omega arith;

@@ -38,9 +38,9 @@ next-v-requires c =
       value = value c;
       last = c.requires.last;
       order = (state c).high;
-      short = omega (arith, ints);
+      missing = omega (arith, ints);
       near = omega (arith, ints);
-      some = some_move _ _ _ c.args.goal _ _ c.requires.few c.requires.reachable c.requires.last c.requires.reached _ _ _ (value c) (state c) (less c);
+      moving = some_move _ _ _ c.args.goal _ _ c.requires.few c.requires.reachable c.requires.last c.requires.reached _ _ _ (value c) (state c) (less c);
       few = omega arith;
       reached = within _ _ _ c.args.goal _ _ c.requires.few c.requires.reachable c.requires.last c.requires.reached _ _ _ (value c) (state c) (less c);
     }
