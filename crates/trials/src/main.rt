@@ -8,6 +8,8 @@ mod apart;
 mod board;
 mod checks;
 mod compare;
+#[cfg(test)]
+mod faults;
 mod links;
 mod outcome;
 mod plans;
