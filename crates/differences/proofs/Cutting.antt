@@ -46,9 +46,6 @@ cut_more k d vs ws i w lt cut met all =
           ];
     }
 
-pub cut_same : (k : ℕ) (d : ℕ → ℕ → ℤ) (vs us ws : List Window) (n : ℕ) → ((i : ℕ) → i < n → window_at ws i ≡ window_at us i) → AllCut k d vs us n → AllCut k d vs ws n
-cut_same k d vs us ws n same all = record { cut = λ i h. rw (same i h) (all.cut i h); met = λ i h. subst Met (sym (same i h)) (all.met i h) }
-
 module _ (k : ℕ) (d : ℕ → ℕ → ℤ) where
   -- values that obey the distances, as a plan
   pub plan_obeys : (f : ℕ → ℤ) → Obeys k d f → obeys k d (plan_of k f) ≡ true
@@ -135,7 +132,6 @@ trim_taken k n vs e h = rw e at (taken n vs (answer_ok (window_refusal n vs) (sy
 pub trim_voids : (k : ℕ) (d : ℕ → ℕ → ℤ) (vs : List Window) → all_lawful vs ≡ true → length vs ≡ k → NoPlan (obeys (length vs) d) vs → Voided (distance_meaning k d) vs vs
 trim_voids k d vs law long none = record { accepted = takes k vs law long; stays = refl; none = rw long at none }
 
-pub trim_opens : (k : ℕ) (d : ℕ → ℕ → ℤ) (vs us ws : List Window) → Closed k d → all_lawful vs ≡ true → length vs ≡ k → length ws ≡ length vs
-    → ((i : ℕ) → i < length ws → window_at ws i ≡ window_at us i) → AllCut (length vs) d vs us (length vs) → Opened (distance_meaning k d) vs ws
-trim_opens k d vs us ws cl law long even same all =
-    cut_opens k d cl vs ws law long (even ∙ long) (cut_same k d vs us ws k (λ i h. same i (omega arith)) (rw long at all))
+pub trim_opens : (k : ℕ) (d : ℕ → ℕ → ℤ) (vs ws : List Window) → Closed k d → all_lawful vs ≡ true → length vs ≡ k → length ws ≡ length vs
+    → AllCut (length vs) d vs ws (length vs) → Opened (distance_meaning k d) vs ws
+trim_opens k d vs ws cl law long even all = cut_opens k d cl vs ws law long (even ∙ long) (rw long at all)

@@ -18,3 +18,4 @@ pub mod Pairing
 pub mod Columns
 pub mod Settings
 pub mod Means
+pub mod Leading

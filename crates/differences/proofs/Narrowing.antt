@@ -1,5 +1,5 @@
 -- A rule of links narrows by its table.
-use Rattle.std.proofs.Common.{◌≡◌, ℕ, ◌<◌, true, List, length, take, ℤ, Some, None, Ok, Option, Result, sym, refl, ap, ◌∙◌, subst, arith}
+use Rattle.std.proofs.Common.{◌≡◌, ℕ, ◌<◌, true, List, length, ℤ, Some, None, Ok, Option, Result, sym, refl, ap, ◌∙◌, subst, arith}
 use Rattle.std.proofs.lemmas.List.{length-replicate}
 use Rattle.std.proofs.lemmas.Int.{ints}
 use Rattle.std.proofs.lemmas.Bool.{both_ways}
@@ -7,6 +7,7 @@ use Rattle.rules.specs.declared.window.Window.{Window}
 use Rattle.rules.specs.declared.fault.Fault.{Fault}
 use Rattle.rules.specs.declared.verdict.Verdict.{Verdict}
 use Rattle.rules.specs.Plans.{everything, lies, window_at}
+use Rattle.rules.specs.ShortLists.{listed}
 use Rattle.rules.specs.Refusals.{answer, window_refusal}
 use Rattle.rules.specs.Meaning.{Narrowed, Voided, tight_rule}
 use Rattle.rules.proofs.Windows.{lies_from, lies_at, lies-length, lawful_at, lawful_ends}
@@ -40,7 +41,7 @@ module _ (r : Links) (vs : List Window) where
         accepted = accepted;
         stays = refl;
         none = λ x keeps there.
-            both_ways (all_linked (take r.count r.links) x)
+            both_ways (all_linked (listed r.links) x)
             (r.same x (lawful-values r.columns x vs accepted there) ∙ ap (λ (o : Option Distances). allowed_by o x) e) keeps;
       }
 
@@ -48,6 +49,6 @@ module _ (r : Links) (vs : List Window) where
   pub links_narrowed : (t : Distances) → r.distances ≡ Some t → (v : Result Verdict Fault) (ws : List Window) → Narrowed (distance_meaning t.columns (distance_of t)) vs v ws → Narrowed (meaning_of r) vs v ws
   links_narrowed t e v ws h =
       let width : t.columns ≡ r.columns = ap (λ (o : Option Distances). width_of r.columns o) (sym e) ∙ r.wide in
-      narrowed_alike r.columns (all_linked (take r.count r.links)) (obeys t.columns (distance_of t)) vs
+      narrowed_alike r.columns (all_linked (listed r.links)) (obeys t.columns (distance_of t)) vs
       (λ accepted x there. r.same x (lawful-values r.columns x vs accepted there) ∙ ap (λ (o : Option Distances). allowed_by o x) e)
       true v ws (subst (λ (n : ℕ). Narrowed (tight_rule (record { width = n; allows = obeys t.columns (distance_of t) }) true) vs v ws) width h)

@@ -1,12 +1,14 @@
 -- What relations leave of two windows.
 use Rattle.std.proofs.Common.{◌≡◌, Bool, true, false, ◌||◌, ◌⊎◌, ℤ, pos, negsuc, ◌+ℤ◌, ◌-ℤ◌, ◌≤ℤ◌, Some, None, Option, sym, refl, subst, inl, inr, ⊎_elim, arith, w32, SFits}
 use lib.Signed.{lt_z}
+use Rattle.std.specs.Option.{option_map}
 use Rattle.std.specs.Int.{int_max, int_min}
 use Rattle.std.proofs.lemmas.Bool.{or_cases, or_left, or_right, cases_cond}
 use Rattle.std.proofs.lemmas.Int.{ints, clamps}
 use Rattle.rules.specs.declared.window.Window.{Window}
 use Rattle.differences.specs.Apart.{ahead, InRange}
-use Rattle.differences.specs.Pairs.{In, Inside, Pair, PairLeft, PairLeaves, spanned}
+use Rattle.rules.specs.Plans.{spanned}
+use Rattle.differences.specs.Pairs.{In, Inside, Pair, PairLeft, PairLeaves}
 
 ahead_le : (gap x y : ℤ) → ahead gap x y ≡ true → x ≤ℤ (y -ℤ gap)
 ahead_le gap x y h = grind (arith, ints)
@@ -66,6 +68,10 @@ left_exchanged R a b v w l =
       other_first = (l.one_first.0, pair_exchanged R w v _ _ l.one_first.1);
       other_last = (l.one_last.0, pair_exchanged R w v _ _ l.one_last.1);
     }
+
+pub leaves_exchanged : (R : ℤ → ℤ → Bool) (a b : Window) (o : Option (Window × Window)) → PairLeaves R b a o → PairLeaves (λ x y. R y x) a b (option_map (λ p. (p.1, p.0)) o)
+leaves_exchanged R a b None none = λ x y p. none y x (pair_exchanged (λ x y. R y x) b a y x p)
+leaves_exchanged R a b (Some (v, w)) l = left_exchanged R a b v w l
 
 -- a wider relation has the pairs of R, in wider windows too, and leaves the same where it has no others
 module _ (R T : ℤ → ℤ → Bool) (wider : (x y : ℤ) → R x y ≡ true → T x y ≡ true) where

@@ -1,7 +1,8 @@
 -- The loops that shorten a row, and all rows, by way of one column.
-use Rattle.std.proofs.Common.{◌≡◌, ℕ, ◌+◌, ◌<◌, ◌≤◌, List, [], length, get_or, set, ℤ, pos, ◌+ℤ◌, ◌≤ℤ◌, ◌<ℤ◌, ap, ◌∙◌, subst, arith, length-set, get_or-set_other, get_or-set_same}
+use Rattle.std.proofs.Common.{◌≡◌, ℕ, ◌+◌, ◌<◌, ◌≤◌, List, [], length, take, get_or, set, ℤ, pos, ◌+ℤ◌, ◌≤ℤ◌, ◌<ℤ◌, ap, ◌∙◌, subst, arith, length-set, get_or-set_other, get_or-set_same}
 use native.Mathlib.Decide.{ℕ_discrete}
 use Rattle.std.specs.Int.{int_min}
+use Rattle.std.proofs.lemmas.List.{length-take-le, get_or-take}
 use Rattle.std.proofs.lemmas.Int.{ints, clamps}
 use Rattle.differences.specs.Tables.{entry, Near}
 use Rattle.differences.specs.Closing.{NearRow, NearRows, Relaxed, TooFar, NoValues, Stepped}
@@ -30,6 +31,27 @@ relaxing_more k old through leg now j v hj hl nv e inv =
 
 pub relaxing_all : (k : ℕ) (old through : List ℤ) (leg : ℤ) (now : List ℤ) (j : ℕ) → k ≤ j → Relaxing k old through leg now j → Relaxed k old through leg now
 relaxing_all k old through leg now j h inv = record { near = inv.near; is = λ q l. inv.done q (omega arith) }
+
+-- the leading k entries of a row say what the row says of k columns
+module _ (k : ℕ) (through : List ℤ) (fits : k ≤ length through) where
+  pub leading_near : NearRow k through → NearRow (length (take k through)) (take k through)
+  leading_near n =
+      let long = length-take-le k through fits in
+      record { near = λ j h. let lt : j < k = omega (arith, long) in omega (arith, ints, get_or-take k through j (pos 0) lt, n.near j lt) }
+
+  pub leading_relaxed : (old : List ℤ) (leg : ℤ) (new : List ℤ) → Relaxed (length (take k through)) old (take k through) leg new → Relaxed k old through leg new
+  leading_relaxed old leg new r =
+      let long = length-take-le k through fits in
+      record {
+        near = record { near = λ j h. r.near.near j (omega (arith, long)) };
+        is = λ j h. r.is j (omega (arith, long)) ∙ ap (λ v. int_min (get_or old j (pos 0)) (leg +ℤ v)) (get_or-take k through j (pos 0) h);
+      }
+
+  pub leading_far : (leg : ℤ) → TooFar (length (take k through)) (take k through) leg → TooFar k through leg
+  leading_far leg t =
+      let long = length-take-le k through fits in
+      let lt : t.column < k = omega (arith, long, t.within) in
+      record { column = t.column; within = lt; far = omega (arith, ints, t.far, get_or-take k through t.column (pos 0) lt) }
 
 -- the table after i of its rows went by column m
 pub record Passing (k m : ℕ) (old now : List (List ℤ)) (i : ℕ) : Type 0 where

@@ -1,6 +1,5 @@
 -- Two columns alone: what a relation between their values leaves of their windows.
 use Rattle.std.specs.Prelude.{◌≡◌, Bool, true, ℤ, ◌≤ℤ◌, Some, None, Option}
-use Rattle.std.specs.Int.{int_max, int_min}
 use Rattle.rules.specs.declared.window.Window.{Window}
 
 -- the value x lies in the window w
@@ -31,7 +30,3 @@ pub record PairLeft (R : ℤ → ℤ → Bool) (a b v w : Window) : Type 0 where
 abbrev pub PairLeaves : (ℤ → ℤ → Bool) → Window → Window → Option (Window × Window) → Type 0
 PairLeaves R a b None = (x y : ℤ) → Pair R a b x y → ⊥
 PairLeaves R a b (Some (v, w)) = PairLeft R a b v w
-
--- the least window that holds both
-abbrev pub spanned : Window → Window → Window
-spanned v w = record { first = int_min v.first w.first; last = int_max v.last w.last }

@@ -9,8 +9,7 @@ ghost use Rattle.rules.specs.Trims.{verdict_left};
 ghost use Rattle.differences.specs.Apart.{There, InRange, apart, apart_scope, apart_refusal, ApartJudged, apart_meaning};
 
 use crate::pairs::keep_apart;
-use rules::window::MOST_COLUMNS;
-use rules::{Fault, Rule, Verdict, Window, check_windows};
+use rules::{Fault, Rule, Verdict, Window, check_columns, check_windows};
 
 /// The smallest gap, and the largest.
 pub const LEAST_GAP: i32 = 1;
@@ -51,13 +50,31 @@ impl Apart {
         ensures law { ApartJudged columns one other gap (apart_refusal columns one other gap) }
         ensures after { MatchResult result (λ _. apart_meaning self.new ≡ tight_rule (apart_scope columns one other gap) false) (λ _. self.new ≡ self.old) }
     {
-        check_apart(columns, one, other, gap)?;
-        *self = Apart {
+        let row = Apart {
             columns,
             one,
             other,
             gap,
         };
+        row.check()?;
+        *self = row;
+        Ok(())
+    }
+
+    /// Judges what the row holds.
+    fn check(&self) -> Result<(), Fault>
+        ensures { result ≡ answer (apart_refusal self.now.columns self.now.one self.now.other self.now.gap) }
+    {
+        check_columns(self.columns)?;
+        if self.one >= self.columns || self.other >= self.columns {
+            return Err(Fault::NoColumn(0));
+        }
+        if self.one == self.other {
+            return Err(Fault::ColumnTwice(0));
+        }
+        if !(LEAST_GAP..=MOST_GAP).contains(&self.gap) {
+            return Err(Fault::OutOfRange(0));
+        }
         Ok(())
     }
 
@@ -65,7 +82,7 @@ impl Apart {
     fn is_set(&self) -> bool
         ensures { result ≡ is_ok (answer (apart_refusal self.now.columns self.now.one self.now.other self.now.gap)) }
     {
-        check_apart(self.columns, self.one, self.other, self.gap).is_ok()
+        self.check().is_ok()
     }
 
     /// The number of columns that the row means.
@@ -74,25 +91,25 @@ impl Apart {
     {
         if self.is_set() { self.columns } else { 1 }
     }
-}
 
-/// Judges what `set` is given.
-fn check_apart(columns: usize, one: usize, other: usize, gap: i32) -> Result<(), Fault>
-    ensures { result ≡ answer (apart_refusal columns one other gap) }
-{
-    if columns < 1 || columns > MOST_COLUMNS {
-        return Err(Fault::ColumnCount);
+    /// Cuts the windows of the two columns down to what the gap leaves of them. `Void` leaves them as they were.
+    fn cut(&self, windows: &mut [Window]) -> Verdict
+        requires lawful { all_lawful windows.old ≡ true }
+        requires there { There (length windows.old) self.now.one self.now.other }
+        requires two { self.now.one ≢ self.now.other }
+        requires range { InRange self.now.gap }
+        ensures left { Leaves (apart self.now.one self.now.other self.now.gap) windows.old (verdict_left result windows.new) }
+        ensures stays { result ≡ Verdict.Void → windows.new ≡ windows.old }
+    {
+        match keep_apart(windows[self.one], windows[self.other], self.gap) {
+            Some((v, w)) => {
+                windows[self.one] = v;
+                windows[self.other] = w;
+                Verdict::Open
+            }
+            None => Verdict::Void,
+        }
     }
-    if one >= columns || other >= columns {
-        return Err(Fault::NoColumn(0));
-    }
-    if one == other {
-        return Err(Fault::ColumnTwice(0));
-    }
-    if gap < LEAST_GAP || gap > MOST_GAP {
-        return Err(Fault::OutOfRange(0));
-    }
-    Ok(())
 }
 
 impl Rule for Apart {
@@ -107,25 +124,6 @@ impl Rule for Apart {
         if !self.is_set() {
             return Ok(Verdict::Open);
         }
-        Ok(cut_apart(windows, self.one, self.other, self.gap))
-    }
-}
-
-/// Cuts the windows of two columns down to what the gap leaves of them. `Void` leaves them as they were.
-fn cut_apart(windows: &mut [Window], one: usize, other: usize, gap: i32) -> Verdict
-    requires lawful { all_lawful windows.old ≡ true }
-    requires there { There (length windows.old) one other }
-    requires two { one ≢ other }
-    requires range { InRange gap }
-    ensures left { Leaves (apart one other gap) windows.old (verdict_left result windows.new) }
-    ensures stays { result ≡ Verdict.Void → windows.new ≡ windows.old }
-{
-    match keep_apart(windows[one], windows[other], gap) {
-        Some((v, w)) => {
-            windows[one] = v;
-            windows[other] = w;
-            Verdict::Open
-        }
-        None => Verdict::Void,
+        Ok(self.cut(windows))
     }
 }

@@ -1,52 +1,34 @@
 //! What is judged of a list of links before it is set.
 
 ghost use Rattle.std.specs.Prelude.{◌≡◌};
-ghost use Rattle.rules.specs.Refusals.{answer};
+ghost use Rattle.rules.specs.Refusals.{first_failing, answer};
 ghost use Rattle.differences.specs.Links.{present, two_columns, bounded, links_refusal, LinksJudged};
 
-use crate::link::{FARTHEST, Link};
-use rules::window::MOST_COLUMNS;
-use rules::{Fault, Test, first_failing};
+use crate::link::Link;
+use rules::{Fault, check_columns};
 
 /// A rule holds at most so many links.
 pub const MOST_LINKS: usize = 256;
 
-/// Both columns of a link are there.
-#[derive(Clone, Copy)]
-pub struct Present {
-    pub columns: usize,
+/// The index of the first link that names a column that is not there.
+pub fn first_absent(columns: usize, links: &[Link]) -> Option<usize>
+    ensures { result ≡ first_failing (present columns) links.now }
+{
+    links.iter().position(|link| !link.is_present(columns))
 }
 
-impl Test<Link> for Present {
-    ghost accepts = { λ t l. present t.columns l };
-
-    fn passes(&self, item: Link) -> bool {
-        item.left < self.columns && item.right < self.columns
-    }
+/// The index of the first link of a column with itself.
+fn first_of_one_column(links: &[Link]) -> Option<usize>
+    ensures { result ≡ first_failing two_columns links.now }
+{
+    links.iter().position(|link| !link.has_two_columns())
 }
 
-/// A link joins two columns.
-#[derive(Clone, Copy)]
-pub struct TwoColumns;
-
-impl Test<Link> for TwoColumns {
-    ghost accepts = { λ _ l. two_columns l };
-
-    fn passes(&self, item: Link) -> bool {
-        item.left != item.right
-    }
-}
-
-/// The bound of a link is in its range.
-#[derive(Clone, Copy)]
-pub struct Bounded;
-
-impl Test<Link> for Bounded {
-    ghost accepts = { λ _ l. bounded l };
-
-    fn passes(&self, item: Link) -> bool {
-        -FARTHEST <= item.bound && item.bound <= FARTHEST
-    }
+/// The index of the first link whose bound is out of range.
+pub fn first_unbounded(links: &[Link]) -> Option<usize>
+    ensures { result ≡ first_failing bounded links.now }
+{
+    links.iter().position(|link| !link.is_bounded())
 }
 
 /// Refuses a number of columns outside 1 to 32 (1), then the first link that names a column that is not there (2), then more than
@@ -55,19 +37,17 @@ pub fn check_links(columns: usize, links: &[Link]) -> Result<(), Fault>
     ensures value { result ≡ answer (links_refusal columns links.now) }
     ensures law { LinksJudged columns links.now (links_refusal columns links.now) }
 {
-    if columns < 1 || columns > MOST_COLUMNS {
-        return Err(Fault::ColumnCount);
-    }
-    if let Some(at) = first_failing(&Present { columns }, links) {
+    check_columns(columns)?;
+    if let Some(at) = first_absent(columns, links) {
         return Err(Fault::NoColumn(at));
     }
     if links.len() > MOST_LINKS {
         return Err(Fault::ListLength);
     }
-    if let Some(at) = first_failing(&TwoColumns, links) {
+    if let Some(at) = first_of_one_column(links) {
         return Err(Fault::ColumnTwice(at));
     }
-    if let Some(at) = first_failing(&Bounded, links) {
+    if let Some(at) = first_unbounded(links) {
         return Err(Fault::OutOfRange(at));
     }
     Ok(())

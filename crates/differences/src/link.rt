@@ -1,5 +1,8 @@
 //! Links between columns.
 
+ghost use Rattle.std.specs.Prelude.{◌≡◌};
+ghost use Rattle.differences.specs.Links.{present, two_columns, bounded};
+
 /// Two values never differ by more. The bound of a link is from `-FARTHEST` to `FARTHEST`.
 pub const FARTHEST: i32 = 60_000_000;
 
@@ -9,4 +12,27 @@ pub struct Link {
     pub left: usize,
     pub right: usize,
     pub bound: i32,
+}
+
+impl Link {
+    /// Both columns are there.
+    pub fn is_present(&self, columns: usize) -> bool
+        ensures { result ≡ present columns self.now }
+    {
+        self.left < columns && self.right < columns
+    }
+
+    /// The link joins two columns, and not one with itself.
+    pub fn has_two_columns(&self) -> bool
+        ensures { result ≡ two_columns self.now }
+    {
+        self.left != self.right
+    }
+
+    /// The bound is in its range.
+    pub fn is_bounded(&self) -> bool
+        ensures { result ≡ bounded self.now }
+    {
+        (-FARTHEST..=FARTHEST).contains(&self.bound)
+    }
 }

@@ -1,12 +1,15 @@
 //! The rule of a list of links.
 
-ghost use Rattle.std.specs.Prelude.{◌≡◌, ◌≤◌, true, List, take, ℤ};
+ghost use Rattle.std.specs.Prelude.{◌≡◌, ◌≤◌, true, List, ℤ};
 ghost use Rattle.rules.specs.Plans.{lies};
+ghost use Rattle.rules.specs.ShortLists.{listed};
 ghost use Rattle.differences.specs.Links.{all_linked};
 ghost use Rattle.differences.specs.Distances.{all_values, allowed_by, width_of};
 
+use crate::check::MOST_LINKS;
 use crate::distances::Distances;
 use crate::link::Link;
+use rules::ShortList;
 
 pub mod rule;
 
@@ -16,11 +19,10 @@ pub mod rule;
 #[derive(Clone, Copy)]
 pub struct Links {
     columns: usize,
-    count: usize,
-    links: [Link; 256],
+    links: ShortList<Link, MOST_LINKS>,
     distances: Option<Distances>,
     ghost some: { 1 ≤ columns },
     ghost few: { columns ≤ 32 },
     ghost wide: { width_of columns distances ≡ columns },
-    ghost same: { (x : List ℤ) → lies x (all_values columns) ≡ true → all_linked (take count links) x ≡ allowed_by distances x },
+    ghost same: { (x : List ℤ) → lies x (all_values columns) ≡ true → all_linked (listed links) x ≡ allowed_by distances x },
 }

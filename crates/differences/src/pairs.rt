@@ -1,10 +1,11 @@
 //! Two columns alone: what a gap between their values leaves of their windows.
 
 ghost use Rattle.std.specs.Prelude.{◌≡◌, Bool, true, ◌||◌, ℤ};
+ghost use Rattle.std.specs.Option.{option_map};
 ghost use Rattle.rules.specs.declared.window.Window.{Window as Interval};
 ghost use Rattle.rules.specs.Plans.{lawful};
 ghost use Rattle.differences.specs.Apart.{ahead, far, InRange};
-ghost use Rattle.differences.specs.Pairs.{PairLeaves, spanned};
+ghost use Rattle.differences.specs.Pairs.{PairLeaves};
 
 use rules::Window;
 
@@ -44,12 +45,9 @@ fn precede(a: Window, b: Window, gap: i32) -> Option<(Window, Window)>
 
 /// The same pair of windows in the other order.
 fn exchange(pair: Option<(Window, Window)>) -> Option<(Window, Window)>
-    ensures { (R : ℤ → ℤ → Bool) (a b : Interval) → PairLeaves R b a pair → PairLeaves (λ x y. R y x) a b result }
+    ensures { result ≡ option_map (λ p. (p.1, p.0)) pair }
 {
-    match pair {
-        Some((v, w)) => Some((w, v)),
-        None => None,
-    }
+    pair.map(|(v, w)| (w, v))
 }
 
 /// What one or the other of two relations leaves, from what each leaves.
@@ -60,18 +58,8 @@ fn join(
     ensures { (R S : ℤ → ℤ → Bool) (a b : Interval) → PairLeaves R a b these → PairLeaves S a b those → PairLeaves (λ x y. R x y || S x y) a b result }
 {
     match (these, those) {
-        (Some((a, b)), Some((v, w))) => Some((span(a, v), span(b, w))),
+        (Some((a, b)), Some((v, w))) => Some((a.span(&v), b.span(&w))),
         (Some(_), None) => these,
         (None, _) => those,
-    }
-}
-
-/// The least window that holds both.
-fn span(v: Window, w: Window) -> Window
-    ensures { result ≡ spanned v w }
-{
-    Window {
-        first: v.first.min(w.first),
-        last: v.last.max(w.last),
     }
 }

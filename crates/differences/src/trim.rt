@@ -1,12 +1,13 @@
 //! The trim by distances.
 
-ghost use Rattle.std.specs.Prelude.{◌≡◌, ℕ, ◌<◌, ◌≤◌, true, length, MatchOption};
-ghost use Rattle.rules.specs.Plans.{all_lawful, NoPlan, window_at};
+ghost use Rattle.std.specs.Prelude.{◌≡◌, ◌<◌, true, length, MatchOption};
+ghost use Rattle.rules.specs.Plans.{all_lawful, NoPlan};
 ghost use Rattle.rules.specs.Meaning.{Narrowed};
 ghost use Rattle.differences.specs.Tables.{Closed, obeys, distance_meaning};
 ghost use Rattle.differences.specs.Ends.{Cut, AllCut};
 
 use crate::distance::Distance;
+use rules::window::MOST_COLUMNS;
 use rules::{Fault, Verdict, Window, check_windows};
 
 /// What the distances leave of the window of column `i`: perhaps nothing, its first value above its last.
@@ -25,32 +26,21 @@ fn cut<D: Distance>(distances: &D, windows: &[Window], i: usize) -> Window
     Window { first, last }
 }
 
-/// What the distances leave of all windows, or `None` where no plan in them obeys the distances.
-fn cut_all<D: Distance>(distances: &D, windows: &[Window]) -> Option<[Window; 32]>
+/// Writes to `left` what the distances leave of all windows, or `None` where no plan in them obeys the distances.
+fn cut_all<D: Distance>(distances: &D, windows: &[Window], left: &mut [Window]) -> Option<()>
     requires closed { Closed (length windows.now) (D.Distance.distance distances.now) }
     requires lawful { all_lawful windows.now ≡ true }
-    requires few { length windows.now ≤ 32 }
-    ensures { MatchOption result (NoPlan (obeys (length windows.now) (D.Distance.distance distances.now)) windows.now) (λ ws. AllCut (length windows.now) (D.Distance.distance distances.now) windows.now ws (length windows.now)) }
+    requires even { length left.old ≡ length windows.now }
+    ensures { MatchOption result (NoPlan (obeys (length windows.now) (D.Distance.distance distances.now)) windows.now) (λ _. AllCut (length windows.now) (D.Distance.distance distances.now) windows.now left.new (length windows.now)) }
 {
-    let mut left = [Window { first: 0, last: 0 }; 32];
-    for i in 0..windows.len() {
+    for (i, place) in left.iter_mut().enumerate() {
         let window = cut(distances, windows, i);
         if window.first > window.last {
             return None;
         }
-        left[i] = window;
+        *place = window;
     }
-    Some(left)
-}
-
-/// Copies the leading windows of `left`.
-fn copy(windows: &mut [Window], left: &[Window; 32])
-    requires few { length windows.old ≤ 32 }
-    ensures { (i : ℕ) → i < length windows.new → window_at windows.new i ≡ window_at left.now i }
-{
-    for i in 0..windows.len() {
-        windows[i] = left[i];
-    }
+    Some(())
 }
 
 /// Cuts the windows down to the values of the plans that obey the distances. A refusal and `Void` leave them as they were.
@@ -60,10 +50,12 @@ pub fn trim_by<D: Distance>(distances: &D, windows: &mut [Window]) -> Result<Ver
     ensures { Narrowed (distance_meaning (D.Distance.width distances.now) (D.Distance.distance distances.now)) windows.old result windows.new }
 {
     check_windows(distances.columns(), windows)?;
-    match cut_all(distances, windows) {
+    let mut room = [Window { first: 0, last: 0 }; MOST_COLUMNS];
+    let left = &mut room[..windows.len()];
+    match cut_all(distances, windows, left) {
         None => Ok(Verdict::Void),
-        Some(left) => {
-            copy(windows, &left);
+        Some(()) => {
+            windows.copy_from_slice(left);
             Ok(Verdict::Open)
         }
     }

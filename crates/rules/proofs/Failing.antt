@@ -1,7 +1,9 @@
 -- The first entry that fails a test, and the refusal of windows.
-use Rattle.std.proofs.Common.{◌≡◌, ℕ, zero, suc, Bool, true, false, cond, eqb, List, [], ◌∷◌, length, Some, None, Ok, Err, Option, refl, ap, ◌∙◌, arith}
+use Rattle.std.proofs.Common.{◌≡◌, ℕ, zero, suc, ◌+◌, Bool, true, false, not, cond, eqb, List, [], ◌∷◌, length, Some, None, Ok, Err, Option, refl, ap, ◌∙◌, arith}
 use Rattle.std.specs.Option.{option_map}
 use Rattle.std.specs.List.{AllWithin}
+use Rattle.std.specs.List.{position, position_from}
+use Rattle.std.proofs.lemmas.Iterator.Adapters.{position_from-zero}
 use Rattle.std.proofs.lemmas.Bool.{and_from, and_parts, eqb-true, eqb-false, eq-eqb}
 use Rattle.rules.specs.declared.window.Window.{Window}
 use Rattle.rules.specs.declared.fault.Fault.{Fault}
@@ -47,6 +49,24 @@ module _ {X : Type 0} (test : X → Bool) where
   none_found (x ∷ xs) f =
       ap (λ b. cond b (option_map suc (first_failing test xs)) (Some 0)) (f 0 x (omega arith) (omega arith))
       ∙ ap (option_map suc) (none_found xs (λ k d l h. f (suc k) d (omega arith) (omega arith)))
+
+  -- the library's way of finding it
+  from_head : (i : ℕ) (b : Bool) (o : Option ℕ) (r : Option ℕ) → r ≡ option_map (λ k. suc i + k) o → cond (not b) (Some i) r ≡ option_map (λ k. i + k) (cond b (option_map suc o) (Some 0))
+  from_head i true None r e = e
+  from_head i true (Some k) r e = e ∙ ap Some (omega arith)
+  from_head i false o r e = ap Some (omega arith)
+
+  from_failing : (i : ℕ) (xs : List X) → position_from (λ x. not (test x)) i xs ≡ option_map (λ k. i + k) (first_failing test xs)
+  unfolding first_failing
+  from_failing i [] = refl
+  from_failing i (x ∷ xs) = from_head i (test x) (first_failing test xs) _ (ap (λ n. position_from (λ y. not (test y)) n xs) (omega arith) ∙ from_failing (suc i) xs)
+
+  option_same : (o : Option ℕ) → option_map (λ k. 0 + k) o ≡ o
+  option_same None = refl
+  option_same (Some k) = ap Some (omega arith)
+
+  pub position_failing : (xs : List X) → position (λ x. not (test x)) xs ≡ first_failing test xs
+  position_failing xs = position_from-zero (λ x. not (test x)) xs ∙ from_failing 0 xs ∙ option_same (first_failing test xs)
 
 pub every_lawful : (ws : List Window) → AllWithin (λ w. lawful w ≡ true) ws 0 (length ws) → all_lawful ws ≡ true
 every_lawful [] f = refl

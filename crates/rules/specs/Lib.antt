@@ -5,3 +5,4 @@ pub mod Refusals
 pub mod Meaning
 pub mod Enumeration
 pub mod Trims
+pub mod ShortLists

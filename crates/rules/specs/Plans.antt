@@ -1,5 +1,6 @@
 -- Values, windows and plans, and when a plan lies in windows.
 use Rattle.std.specs.Prelude.{◌≡◌, ℕ, ◌<◌, Bool, true, false, ◌&&◌, List, [], ◌∷◌, length, ℤ, pos, negsuc, ◌≤ℤ◌, ◌≢◌, int_le, slice_index_or}
+use Rattle.std.specs.Int.{int_min, int_max}
 use Rattle.rules.specs.declared.window.Window.{Window}
 
 -- the window of a column, and a plan's value there
@@ -16,6 +17,10 @@ is_value v = int_le (negsuc 29999999) v && int_le v (pos 30000000)
 -- both ends are values, and the first is not above the last
 abbrev pub lawful : Window → Bool
 lawful w = is_value w.first && (is_value w.last && int_le w.first w.last)
+
+-- the least window that holds both
+abbrev pub spanned : Window → Window → Window
+spanned v w = record { first = int_min v.first w.first; last = int_max v.last w.last }
 
 abbrev pub all_lawful : List Window → Bool
 all_lawful [] = true

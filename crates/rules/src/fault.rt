@@ -66,12 +66,12 @@ impl Fault {
         ensures { result ≡ place self.now }
     {
         match self {
-            Fault::NoColumn(at) => *at,
-            Fault::UnlawfulWindow(at) => *at,
-            Fault::ColumnTwice(at) => *at,
-            Fault::OutOfRange(at) => *at,
-            Fault::NegativeRing(at) => *at,
-            Fault::TiedSummands(at) => *at,
+            Fault::NoColumn(at)
+            | Fault::UnlawfulWindow(at)
+            | Fault::ColumnTwice(at)
+            | Fault::OutOfRange(at)
+            | Fault::NegativeRing(at)
+            | Fault::TiedSummands(at) => *at,
             Fault::ColumnCount
             | Fault::NothingShared
             | Fault::MarksFull

@@ -1,5 +1,8 @@
 //! Values and windows.
 
+ghost use Rattle.std.specs.Prelude.{◌≡◌};
+ghost use Rattle.rules.specs.Plans.{lawful, spanned};
+
 /// The smallest value, and the largest: a value is a whole number between them, both included.
 pub const FIRST_VALUE: i32 = -30_000_000;
 
@@ -13,4 +16,24 @@ pub const MOST_COLUMNS: usize = 32;
 pub struct Window {
     pub first: i32,
     pub last: i32,
+}
+
+impl Window {
+    /// Both ends are values, and the first is not above the last.
+    pub fn is_lawful(&self) -> bool
+        ensures { result ≡ lawful self.now }
+    {
+        let values = FIRST_VALUE..=LAST_VALUE;
+        values.contains(&self.first) && values.contains(&self.last) && self.first <= self.last
+    }
+
+    /// The least window that holds both.
+    pub fn span(&self, other: &Window) -> Window
+        ensures { result ≡ spanned self.now other.now }
+    {
+        Window {
+            first: self.first.min(other.first),
+            last: self.last.max(other.last),
+        }
+    }
 }

@@ -1,14 +1,16 @@
 //! Filling a table from links, and closing it.
 
-ghost use Rattle.std.specs.Prelude.{◌≡◌, ℕ, ◌<◌, ◌≤◌, true, false, length, pos, ◌≢◌, slice_index_or};
+ghost use Rattle.std.specs.Prelude.{◌≡◌, ℕ, ◌<◌, ◌≤◌, length, pos, ◌≢◌, MatchOption, slice_index_or};
 ghost use Rattle.std.specs.Int.{int_min};
 ghost use Rattle.differences.specs.Tables.{Near, entry};
 ghost use Rattle.differences.specs.Closing.{NearRow, NearRows, AllFar, Unlinked, GoodLinks, Entered, Relaxed, TooFar, Stepped, NoValues, ClosedFrom};
 
+use crate::distances::Row;
 use crate::link::{FARTHEST, Link};
+use rules::window::MOST_COLUMNS;
 
 /// Lowers one entry of a row to `bound`.
-fn lower(row: &mut [i32; 32], column: usize, bound: i32)
+fn lower(row: &mut Row, column: usize, bound: i32)
     requires { column < 32 }
     ensures same { slice_index_or row.new column (pos 0) ≡ int_min (slice_index_or row.old column (pos 0)) bound }
     ensures other { (j : ℕ) → (j ≢ column) → slice_index_or row.new j (pos 0) ≡ slice_index_or row.old j (pos 0) }
@@ -17,26 +19,25 @@ fn lower(row: &mut [i32; 32], column: usize, bound: i32)
 }
 
 /// Each column as far from each as two values can be.
-fn farthest_rows() -> [[i32; 32]; 32]
+fn farthest_rows() -> [Row; MOST_COLUMNS]
     ensures { AllFar result }
 {
-    let row = [FARTHEST; 32];
-    [row; 32]
+    [[FARTHEST; MOST_COLUMNS]; MOST_COLUMNS]
 }
 
 /// Writes 0 for the distance of each column to itself.
-fn zero_diagonal(rows: &mut [[i32; 32]])
+fn zero_diagonal(rows: &mut [Row])
     requires long { length rows.old ≡ 32 }
     requires far { AllFar rows.old }
     ensures { Unlinked rows.new }
 {
-    for i in 0..rows.len() {
-        lower(&mut rows[i], i, 0);
+    for (i, row) in rows.iter_mut().enumerate() {
+        lower(row, i, 0);
     }
 }
 
 /// The table that binds no two values.
-pub(super) fn unlinked() -> [[i32; 32]; 32]
+pub(super) fn unlinked() -> [Row; MOST_COLUMNS]
     ensures { Unlinked result }
 {
     let mut rows = farthest_rows();
@@ -45,7 +46,7 @@ pub(super) fn unlinked() -> [[i32; 32]; 32]
 }
 
 /// Enters the links into a table that binds no two values.
-pub(super) fn enter(rows: &mut [[i32; 32]], columns: usize, links: &[Link])
+pub(super) fn enter(rows: &mut [Row], columns: usize, links: &[Link])
     requires few { columns ≤ 32 }
     requires long { length rows.old ≡ 32 }
     requires unlinked { Unlinked rows.old }
@@ -57,62 +58,53 @@ pub(super) fn enter(rows: &mut [[i32; 32]], columns: usize, links: &[Link])
     }
 }
 
-/// Shortens the leading entries of `row` by way of a column that is `leg` away and has the row `through`.
-/// `false`: two columns lie farther apart than any two values.
-fn relax(row: &mut [i32; 32], through: &[i32; 32], leg: i32, columns: usize) -> bool
-    requires few { columns ≤ 32 }
-    requires row { NearRow columns row.old }
-    requires through { NearRow columns through.now }
+/// Shortens the leading entries of `row` by way of a column that is `leg` away and whose own distances are `through`.
+/// `None`: two columns lie farther apart than any two values.
+fn relax(row: &mut Row, through: &[i32], leg: i32) -> Option<()>
+    requires few { length through.now ≤ 32 }
+    requires row { NearRow (length through.now) row.old }
+    requires through { NearRow (length through.now) through.now }
     requires leg { Near leg }
-    ensures yes { result ≡ true → Relaxed columns row.old through.now leg row.new }
-    ensures no { result ≡ false → TooFar columns through.now leg }
+    ensures { MatchOption result (TooFar (length through.now) through.now leg) (λ _. Relaxed (length through.now) row.old through.now leg row.new) }
 {
-    for j in 0..columns {
-        let sum = leg + through[j];
+    for (j, rest) in through.iter().enumerate() {
+        let sum = leg + *rest;
         if sum < -FARTHEST {
-            return false;
+            return None;
         }
         row[j] = row[j].min(sum);
     }
-    true
+    Some(())
 }
 
-/// Shortens each distance by way of column `m`. `false`: no values obey the table.
-fn pass(rows: &mut [[i32; 32]], columns: usize, m: usize) -> bool
-    requires few { columns ≤ 32 }
-    requires long { columns ≤ length rows.old }
-    requires there { m < columns }
-    requires near { NearRows columns rows.old }
-    ensures yes { result ≡ true → Stepped columns m (entry rows.old) (entry rows.new) }
-    ensures near { result ≡ true → NearRows columns rows.new }
-    ensures no { result ≡ false → NoValues columns rows.old }
+/// Shortens each distance by way of column `m`. `None`: no values obey the table.
+fn pass(rows: &mut [Row], m: usize) -> Option<()>
+    requires few { length rows.old ≤ 32 }
+    requires there { m < length rows.old }
+    requires near { NearRows (length rows.old) rows.old }
+    ensures { MatchOption result (NoValues (length rows.old) rows.old) (λ _. Stepped (length rows.old) m (entry rows.old) (entry rows.new) × NearRows (length rows.old) rows.new) }
 {
+    let columns = rows.len();
     let through = rows[m];
-    for i in 0..columns {
-        let leg = rows[i][m];
-        if !relax(&mut rows[i], &through, leg, columns) {
-            return false;
-        }
-        if rows[i][i] < 0 {
-            return false;
+    for (i, row) in rows.iter_mut().enumerate() {
+        let leg = row[m];
+        relax(row, &through[..columns], leg)?;
+        if row[i] < 0 {
+            return None;
         }
     }
-    true
+    Some(())
 }
 
-/// Makes the table closed, so that it says of values what it said before. `false`: no values obey it.
-pub(super) fn close(rows: &mut [[i32; 32]], columns: usize) -> bool
-    requires few { columns ≤ 32 }
-    requires long { columns ≤ length rows.old }
-    requires near { NearRows columns rows.old }
-    requires zeros { (i : ℕ) → i < columns → entry rows.old i i ≡ pos 0 }
-    ensures yes { result ≡ true → ClosedFrom columns rows.old rows.new }
-    ensures no { result ≡ false → NoValues columns rows.old }
+/// Makes the table closed, so that it says of values what it said before. `None`: no values obey it.
+pub(super) fn close(rows: &mut [Row]) -> Option<()>
+    requires few { length rows.old ≤ 32 }
+    requires near { NearRows (length rows.old) rows.old }
+    requires zeros { (i : ℕ) → i < length rows.old → entry rows.old i i ≡ pos 0 }
+    ensures { MatchOption result (NoValues (length rows.old) rows.old) (λ _. ClosedFrom (length rows.old) rows.old rows.new) }
 {
-    for m in 0..columns {
-        if !pass(rows, columns, m) {
-            return false;
-        }
+    for m in 0..rows.len() {
+        pass(rows, m)?;
     }
-    true
+    Some(())
 }

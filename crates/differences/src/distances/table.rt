@@ -1,6 +1,7 @@
 //! The table of a list of links.
 
-ghost use Rattle.std.specs.Prelude.{[]};
+ghost use Rattle.std.specs.Prelude.{◌≡◌, [], None, Ok};
+ghost use Rattle.differences.specs.Links.{links_refusal};
 ghost use Rattle.differences.specs.Distances.{distance_of, Tabled, Made};
 
 use crate::check::check_links;
@@ -24,13 +25,19 @@ impl Distances {
         ensures { Made columns links.now result }
     {
         check_links(columns, links)?;
-        let mut rows = unlinked();
-        enter(&mut rows, columns, links);
-        if !close(&mut rows, columns) {
-            return Ok(None);
-        }
-        Ok(Some(Distances { columns, rows }))
+        Ok(closed(columns, links))
     }
+}
+
+/// The table of links that were judged, or `None` where no plan of values keeps them.
+fn closed(columns: usize, links: &[Link]) -> Option<Distances>
+    requires { links_refusal columns links.now ≡ None }
+    ensures { Made columns links.now (Ok result) }
+{
+    let mut rows = unlinked();
+    enter(&mut rows, columns, links);
+    close(&mut rows[..columns])?;
+    Some(Distances { columns, rows })
 }
 
 impl Distance for Distances {

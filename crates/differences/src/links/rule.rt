@@ -1,7 +1,9 @@
 //! Setting links, and trimming by them.
 
-ghost use Rattle.std.specs.Prelude.{◌≡◌, ◌≤◌, true, length, take, Ok, Err};
+ghost use Rattle.std.specs.Prelude.{◌≡◌, true, Ok, Err};
+ghost use Rattle.std.specs.Option.{option_map};
 ghost use Rattle.rules.specs.Refusals.{answer};
+ghost use Rattle.rules.specs.ShortLists.{listed};
 ghost use Rattle.rules.specs.Meaning.{tight_rule, fresh_scope};
 ghost use Rattle.differences.specs.Links.{links_meaning, links_refusal, LinksJudged};
 ghost use Rattle.differences.specs.Rules.{meaning_of};
@@ -10,39 +12,24 @@ use crate::distances::Distances;
 use crate::link::Link;
 use crate::links::Links;
 use crate::trim::trim_by;
-use rules::{Fault, Rule, Verdict, Window, check_windows};
+use rules::{Fault, Rule, ShortList, Verdict, Window, check_windows};
 
-/// Room for the links.
-fn no_links() -> [Link; 256] {
-    [Link {
-        left: 0,
-        right: 0,
-        bound: 0,
-    }; 256]
-}
-
-/// The links, and others after them.
-fn stored(links: &[Link]) -> [Link; 256]
-    requires { length links.now ≤ 256 }
-    ensures { take (length links.now) result ≡ links.now }
-{
-    let mut all = no_links();
-    all[0..links.len()].copy_from_slice(links);
-    all
-}
+/// What stands in the places that no link takes.
+const FILLER: Link = Link {
+    left: 0,
+    right: 0,
+    bound: 0,
+};
 
 impl Links {
     /// One column, and no links: every plan is allowed.
     pub fn fresh() -> Links
         ensures { meaning_of result ≡ tight_rule fresh_scope true }
     {
-        let links = no_links();
-        let distances = Some(Distances::fresh());
         Links {
             columns: 1,
-            count: 0,
-            links,
-            distances,
+            links: ShortList::empty(FILLER),
+            distances: Some(Distances::fresh()),
         }
     }
 
@@ -54,15 +41,19 @@ impl Links {
         ensures refused { (f : Fault) → result ≡ Err f → self.new ≡ self.old }
     {
         let distances = Distances::of_links(columns, links)?;
-        let count = links.len();
-        let links = stored(links);
         *self = Links {
             columns,
-            count,
-            links,
+            links: ShortList::of(links, FILLER)?,
             distances,
         };
         Ok(())
+    }
+
+    /// The closed table of the links, or `None` where no plan of values keeps them.
+    pub fn distances(&self) -> Option<&Distances>
+        ensures { option_map (λ d. d.now) result ≡ self.now.distances }
+    {
+        self.distances.as_ref()
     }
 }
 

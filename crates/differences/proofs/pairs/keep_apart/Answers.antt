@@ -1,5 +1,6 @@
 use Rattle.std.proofs.lemmas.Int.{to_z-of_z}
 use Rattle.differences.specs.Apart.{ahead}
+use Rattle.differences.proofs.Pairing.{leaves_exchanged}
 use Rattle.differences.proofs.pairs.keep_apart.Goals as goal
 
 pub returns : goal.returns
@@ -10,4 +11,4 @@ returns c =
     let b = c.args.b in
     c.join.ensures (ahead gap) (λ x y. ahead gap y x) a b
     (simp to_z-of_z at c.precede-rising.ensures)
-    (c.exchange-falling.ensures (ahead gap) a b (simp to_z-of_z at c.precede.ensures))
+    (rw c.exchange-falling.ensures (leaves_exchanged (ahead gap) a b c.precede.result (simp to_z-of_z at c.precede.ensures)))

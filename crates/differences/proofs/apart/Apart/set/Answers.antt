@@ -6,8 +6,8 @@ use Rattle.differences.proofs.Settings.{judged}
 use Rattle.differences.proofs.Means.{set_means}
 use Rattle.differences.proofs.apart.Apart.set.Goals as goal
 
-pub returns-in_err-check_apart : goal.returns-in_err-check_apart
-returns-in_err-check_apart c =
+pub returns-in_err-check : goal.returns-in_err-check
+returns-in_err-check c =
     record { value = search rules; law = judged _ _ _ _; after = MatchResult-from_err c.from_residual.result _ _ c.from_residual.ensures.0 (λ _. refl) }
 
 pub returns : goal.returns
@@ -16,5 +16,5 @@ returns c =
     record {
       value = search rules;
       law = judged _ _ _ _;
-      after = set_means _ _ _ _ _ refl refl refl (to_z-of_z w32 _ fits) (answer_ok _ (sym (simp to_z-of_z at c.in_ok-check_apart.ensures)));
+      after = set_means _ _ _ _ _ refl refl refl (to_z-of_z w32 _ fits) (answer_ok _ (sym (simp to_z-of_z at c.in_ok-check.ensures)));
     }

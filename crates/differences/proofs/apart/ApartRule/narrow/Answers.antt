@@ -1,5 +1,4 @@
-use Rattle.std.proofs.Common.{sym, refl, arith, w32, SFits, rules}
-use Rattle.std.proofs.lemmas.Int.{to_z-of_z}
+use Rattle.std.proofs.Common.{sym, refl, arith}
 use Rattle.rules.proofs.Failing.{answer_ok, taken}
 use Rattle.differences.proofs.Settings.{has_set}
 use Rattle.rules.proofs.Setting.{none_if_ok}
@@ -11,9 +10,8 @@ returns-then-not-is_set c =
     let ok = answer_ok _ (sym c.in_ok-check_windows.ensures.value) in
     record { same = refl; outcome = fresh_narrowed c.args.self.now c.width.result c.args.windows.now c.width.ensures ok (sym c.if-not-is_set.ensures) }
 
-pub cut_apart-requires : goal.cut_apart-requires
-cut_apart-requires c =
-    let fits : SFits w32 c.args.self.now.gap = search rules in
+pub cut-requires : goal.cut-requires
+cut-requires c =
     let is_set = sym c.if-not-is_set.ensures in
     let ok = answer_ok _ (sym c.in_ok-check_windows.ensures.value) in
     let row = has_set _ _ _ _ (none_if_ok _ is_set) in
@@ -22,16 +20,15 @@ cut_apart-requires c =
       lawful = given.0;
       there = (omega (arith, row.there, given.1), omega (arith, row.there, given.1));
       two = row.two;
-      range = simp to_z-of_z row.in_range;
+      range = row.in_range;
     }
 
 pub returns : goal.returns
 returns c =
-    let fits : SFits w32 c.args.self.now.gap = search rules in
     let ok = answer_ok _ (sym c.in_ok-check_windows.ensures.value) in
     record {
       same = refl;
       outcome =
-          set_narrowed c.args.self.now c.width.result c.args.windows.now c.width.ensures ok (sym c.if-not-is_set.ensures) c.cut_apart.result c.cut_apart.new.windows
-          (simp to_z-of_z at c.cut_apart.ensures.left) c.cut_apart.ensures.stays;
+          set_narrowed c.args.self.now c.width.result c.args.windows.now c.width.ensures ok (sym c.if-not-is_set.ensures) c.cut.result c.cut.new.windows
+          c.cut.ensures.left c.cut.ensures.stays;
     }

@@ -18,11 +18,6 @@ returns-in_err-distances c =
       refused = λ f e. refl;
     }
 
-pub stored-links-requires : goal.stored-links-requires
-stored-links-requires c =
-    let says = made_says c.args.columns c.args.links.now c.in_ok-distances.distances c.in_ok-distances.ensures in
-    (links_taken c.args.columns c.args.links.now says.accepted).fit
-
 pub invariant_of-self : goal.invariant_of-self
 invariant_of-self c =
     let says = made_says c.args.columns c.args.links.now c.in_ok-distances.distances c.in_ok-distances.ensures in
@@ -31,7 +26,7 @@ invariant_of-self c =
       some = known.some;
       few = known.few;
       wide = says.wide;
-      same = λ x there. ap (λ (ls : List Link). all_linked ls x) c.stored-links.ensures ∙ says.same x there;
+      same = λ x there. ap (λ (ls : List Link). all_linked ls x) c.in_ok-of.ensures.1 ∙ says.same x there;
     }
 
 pub returns : goal.returns
@@ -40,6 +35,12 @@ returns c =
     record {
       value = ap answer (sym says.accepted);
       law = links_judged _ _;
-      taken = λ _. ap (λ (ls : List Link). links_meaning c.args.columns ls) c.stored-links.ensures;
+      taken = λ _. ap (λ (ls : List Link). links_meaning c.args.columns ls) c.in_ok-of.ensures.1;
       refused = λ f e. let z : ◌≡◌ {A = ℕ} 0 1 = cc in absurd (omega arith);
     }
+
+pub returns-in_err-of : goal.returns-in_err-of
+returns-in_err-of c =
+    let says = made_says c.args.columns c.args.links.now c.in_ok-distances.distances c.in_ok-distances.ensures in
+    let known = links_taken c.args.columns c.args.links.now says.accepted in
+    absurd (omega (arith, known.fit, c.in_err-of.ensures.0))

@@ -1,6 +1,6 @@
 use Rattle.std.proofs.Common.{rules}
 use Rattle.std.proofs.lemmas.Slice.{overwrites}
-use Rattle.differences.proofs.links.rule.stored.Goals as goal
+use Rattle.rules.proofs.short_list.ShortList.of.Goals as goal
 
 pub returns : goal.returns
-returns c = search (rules, overwrites)
+returns g c = search (rules, overwrites)
