@@ -1,23 +1,24 @@
 -- What a closed table of walks tells of rings and ties.
-use Rattle.std.proofs.Common.{◌≡◌, ℕ, zero, suc, ◌+◌, ◌<◌, Bool, true, false, not, ◌&&◌, eqb, List, [], ◌∷◌, ℤ, pos, ◌+ℤ◌, nat_abs, ◌≤ℤ◌, ◌<ℤ◌, is_some, Some, None, Option, sym, refl, ap, ◌∙◌, subst, ⊎_elim, add-one, arith}
-use Rattle.std.specs.List.{ContainsAt as Has}
+use Rattle.std.proofs.Common.{◌≡◌, ℕ, zero, suc, ◌<◌, Bool, true, false, not, ◌&&◌, eqb, List, [], ◌∷◌, ℤ, pos, ◌+ℤ◌, nat_abs, ◌≤ℤ◌, ◌<ℤ◌, is_some, Some, None, Option, sym, refl, subst, ⊎_elim, arith}
+use Rattle.std.specs.List.{list_any, range_with_len, ContainsAt as Has}
+use Rattle.std.proofs.lemmas.List.Folds.{Any-from_list_any, list_any-from_Any}
+use Rattle.std.proofs.lemmas.List.FromFn.{length-range_with_len, get_or-range_with_len}
 use Rattle.std.proofs.lemmas.Int.{ints, by_lt_z}
-use Rattle.std.proofs.lemmas.Bool.{cases_eq, eqb-true, eq-eqb, or_cases, or_left, or_right, or_from, and_parts, and_from, both_ways, not-true, not_from_false, eqb-false, ne_eqb}
+use Rattle.std.proofs.lemmas.Bool.{eqb-true, eq-eqb, or_cases, or_left, or_right, and_parts, and_from, both_ways, not-true, not_from_false, eqb-false, ne_eqb}
 use Rattle.differences.specs.declared.link.Link.{Link}
 use Rattle.rings.specs.Rings.{IsWalk, walk_length, Walk, RingBelow, Tied}
-use Rattle.rings.specs.Tables.{AtMost, Convex, NoneBelow, Walks, any_below, reaches, negative, ring_by, on_ring_below, zero_sum, shows_tie}
+use Rattle.rings.specs.Tables.{AtMost, Convex, NoneBelow, Walks, reaches, negative, ring_by, on_ring_below, zero_sum, shows_tie}
 use Rattle.rings.proofs.Steps.{join, some_is, most_is, most_some, most_less}
 
-pub any_some : (n : ℕ) (f : ℕ → Bool) → any_below n f ≡ true → (i : ℕ) × (i < n) × (f i ≡ true)
-any_some zero f h = grind arith
-any_some (suc n) f h = ⊎_elim (λ e. (n, omega arith, e)) (λ e. let (i, l, g) = any_some n f e in (i, omega arith, g)) (or_cases (f n) (any_below n f) h)
+pub any_some : (n : ℕ) (f : ℕ → Bool) → list_any f (range_with_len 0 n) ≡ true → (i : ℕ) × (i < n) × (f i ≡ true)
+any_some n f h =
+    let (k, i, l, e, t) = Any-from_list_any f (range_with_len 0 n) h in
+    (i, omega (arith, length-range_with_len 0 n, get_or-range_with_len 0 n k i (omega (arith, length-range_with_len 0 n))), t)
 
-pub some_any : (n : ℕ) (f : ℕ → Bool) (i : ℕ) → i < n → f i ≡ true → any_below n f ≡ true
-some_any zero f i l h = absurd (omega arith)
-some_any (suc n) f i l h = ⊎_elim (λ e. or_left (f n) (any_below n f) (ap f (sym e) ∙ h)) (λ ne. or_right (f n) (any_below n f) (some_any n f i (omega arith) h)) (cases_eq i n)
-
-pub any_more : (n : ℕ) (f : ℕ → Bool) → any_below n f ≡ false → f n ≡ false → any_below (n + 1) f ≡ false
-any_more n f h e = rw add-one (or_from (f n) (any_below n f) e h)
+pub some_any : (n : ℕ) (f : ℕ → Bool) (i : ℕ) → i < n → f i ≡ true → list_any f (range_with_len 0 n) ≡ true
+some_any n f i l t =
+    list_any-from_Any f (range_with_len 0 n)
+    (i, i, omega (arith, length-range_with_len 0 n), omega (arith, get_or-range_with_len 0 n i i l), t)
 
 -- the walk once round j, n times
 times : ℕ → ℤ → ℤ

@@ -5,7 +5,7 @@ use Rattle.std.proofs.lemmas.Int.{ints, clamps}
 use Rattle.std.proofs.lemmas.Bool.{cases_eq}
 use Rattle.differences.specs.declared.link.Link.{Link}
 use Rattle.rings.specs.Rings.{Walk}
-use Rattle.rings.specs.Tables.{entry, at, AtMost, joined, shorter, Stepped, Walks, Moderate, ModerateRows, Within, Bounded, Blank, GoodLinks, Entered, Closes}
+use Rattle.rings.specs.Tables.{entry, at, AtMost, joined, shorter, Stepped, Walks, Moderate, ModerateRows, Within, Bounded, Blank, GoodLinks, Entered}
 use Rattle.rings.proofs.Steps.{walks_step, came, most_stays}
 
 within_step : (b : ℕ) (o p q : Option ℤ) → Within b o → Within b p → Within b q → Within (b + b) (shorter o (joined p q))
@@ -24,16 +24,16 @@ within_moderate : (b : ℕ) (o : Option ℤ) → b ≤ 2305843009213693952 → W
 within_moderate b None l h = tt
 within_moderate b (Some v) l h = (omega (arith, ints), omega (arith, ints))
 
--- a table after the ways by m columns are entered
-pub record Closing (k : ℕ) (old now : ℕ → ℕ → Option ℤ) (m : ℕ) : Type 0 where
-  pub bounded : Bounded k (60000000 * 2 ^ m) now
-  pub walks : (links : List Link) → GoodLinks k links → Walks k links 0 old → Walks k links m now
+-- the table of the links, after the ways by m columns are entered
+pub record Closing (k : ℕ) (links : List Link) (d : ℕ → ℕ → Option ℤ) (m : ℕ) : Type 0 where
+  pub bounded : Bounded k (60000000 * 2 ^ m) d
+  pub walks : Walks k links m d
 
-pub closing_none : (k : ℕ) (d : ℕ → ℕ → Option ℤ) → Bounded k 60000000 d → Closing k d d 0
-closing_none k d b = record { bounded = b; walks = λ links g w. w }
+pub closing_none : (k : ℕ) (links : List Link) (d : ℕ → ℕ → Option ℤ) → Entered k links d → Closing k links d 0
+closing_none k links d e = record { bounded = e.bounded; walks = e.walks }
 
-pub closing_more : (k m : ℕ) (old d e : ℕ → ℕ → Option ℤ) → m < k → Stepped k m d e → Closing k old d m → Closing k old e (m + 1)
-closing_more k m old d e hm st c =
+pub closing_more : (k m : ℕ) (links : List Link) (d e : ℕ → ℕ → Option ℤ) → GoodLinks k links → m < k → Stepped k m d e → Closing k links d m → Closing k links e (m + 1)
+closing_more k m links d e g hm st c =
     record {
       bounded = record {
         each = λ i j hi hj.
@@ -41,21 +41,18 @@ closing_more k m old d e hm st c =
             let twice : 60000000 * 2 ^ m + 60000000 * 2 ^ m ≤ 60000000 * 2 ^ (m + 1) = omega (arith, pow-add 2 m 1) in
             within_more _ _ (e i j) twice (subst (Within (60000000 * 2 ^ m + 60000000 * 2 ^ m)) (sym (st.is i j hi hj)) h);
       };
-      walks = λ links g w. walks_step k links m hm d e st (c.walks links g w) (λ l a. (g.right l a, g.left l a));
+      walks = walks_step k links m hm d e st c.walks (λ l a. (g.right l a, g.left l a));
     }
 
-pub closing_moderate : (k m : ℕ) (old : ℕ → ℕ → Option ℤ) (t : List (List (Option ℤ))) → k ≤ 32 → m < k → Closing k old (at t) m → ModerateRows k t
-closing_moderate k m old t few hm c =
+pub closing_moderate : (k m : ℕ) (links : List Link) (t : List (List (Option ℤ))) → k ≤ 32 → m < k → Closing k links (at t) m → ModerateRows k t
+closing_moderate k m links t few hm c =
     let p : 2 ^ m ≤ 2 ^ 32 = (let few' : m ≤ 32 = omega arith in pow_mono few') in
     record { each = λ i hi. record { each = λ j hj. within_moderate (60000000 * 2 ^ m) (at t i j) (omega arith) (c.bounded.each i j hi hj) } }
 
-pub closing_all : (k m : ℕ) (old now : ℕ → ℕ → Option ℤ) → k ≤ 32 → m ≡ k → Closing k old now m → Closes k old now
-closing_all k m old now few e c =
-    let p : 2 ^ m ≤ 2 ^ 32 = (let few' : m ≤ 32 = omega arith in pow_mono few') in
-    record {
-      bounded = record { each = λ i j hi hj. within_more (60000000 * 2 ^ m) _ (now i j) (omega arith) (c.bounded.each i j hi hj) };
-      walks = λ links g w. subst (λ (n : ℕ). Walks k links n now) e (c.walks links g w);
-    }
+pub closing_bounded : (k m : ℕ) (links : List Link) (d : ℕ → ℕ → Option ℤ) → m ≤ 32 → Closing k links d m → Bounded k 257698037760000000 d
+closing_bounded k m links d few c =
+    let p : 2 ^ m ≤ 2 ^ 32 = pow_mono few in
+    record { each = λ i j hi hj. within_more (60000000 * 2 ^ m) _ (d i j) (omega arith) (c.bounded.each i j hi hj) }
 
 abbrev pub no_link : Link
 no_link = record { left = 0; right = 0; bound = pos 0 }
@@ -75,7 +72,7 @@ entering_none k links t b =
     }
 
 -- what one note makes of an entry: that of the link, or none
-module _ (k : ℕ) (links : List Link) (t : List (List (Option ℤ))) (n : ℕ) (link : Link) (row : List (Option ℤ)) (few : length t ≡ k)
+module _ (k : ℕ) (links : List Link) (t : List (List (Option ℤ))) (n : ℕ) (link : Link) (row : List (Option ℤ)) (few : k ≤ length t)
     (has : Has links link) (good : GoodLinks k links)
     (bound : ℤ) (bound-is : bound ≡ link.bound) (same : entry row link.left ≡ shorter (entry (get_or t link.right []) link.left) (Some bound))
     (other : (j : ℕ) → (j ≡ link.left → ⊥) → entry row j ≡ entry (get_or t link.right []) j) where

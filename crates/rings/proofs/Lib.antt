@@ -1,6 +1,5 @@
 pub mod Steps
 pub mod Closed
-pub mod ByWay
 pub mod Ways
 pub mod Writes
 pub mod Rows
@@ -8,3 +7,4 @@ pub mod Entries
 pub mod Ties
 pub mod Judging
 pub mod Offered
+pub mod Searching

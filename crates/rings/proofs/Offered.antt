@@ -1,12 +1,12 @@
 -- Links that were not refused, and a table that holds no walk yet.
-use Rattle.std.proofs.Common.{◌≡◌, ℕ, zero, suc, ◌<◌, ◌≤◌, List, [], length, get_or, take, replicate, ℤ, pos, negsuc, ◌≤ℤ◌, Some, None, Err, Option, Result, sym, refl, ap, ◌∙◌, subst, arith, length-take, get_or-take, MatchOption}
+use Rattle.std.proofs.Common.{◌≡◌, ℕ, zero, suc, ◌<◌, ◌≤◌, List, [], get_or, replicate, ℤ, pos, negsuc, ◌≤ℤ◌, Some, None, Err, Option, Result, sym, refl, ap, ◌∙◌, subst, arith, MatchOption}
 use Rattle.std.specs.List.{ContainsAt as Has}
+use Rattle.std.proofs.lemmas.List.{get_or-replicate}
 use Rattle.rules.specs.declared.fault.Fault.{Fault}
-use Rattle.rules.specs.Refusals.{answer}
 use Rattle.differences.specs.declared.link.Link.{Link}
 use Rattle.differences.specs.Links.{links_refusal}
 use Rattle.differences.proofs.Judging.{links_taken}
-use Rattle.rings.specs.Rings.{RingsJudged, RingsAnswer, RingsChecked}
+use Rattle.rings.specs.Rings.{RingsAnswer, RingsChecked}
 use Rattle.rings.specs.Tables.{GoodLinks, Blank}
 use Rattle.rings.proofs.Entries.{no_link}
 
@@ -33,31 +33,24 @@ taken k links e =
       two = λ l (n, h, f). subst (λ (m : Link). m.right ≡ m.left → ⊥) (f no_link) (λ s. g.two n h (sym s));
     }
 
--- the leading k rows of a blank table, cut out by a part of the length n
-pub part_long : (t : List (List (Option ℤ))) (k n : ℕ) → length t ≡ 32 → k ≤ 32 → n ≡ k → length (take n t) ≡ k
-part_long t k n l few e = simp length-take (omega arith)
-
-pub blank_part : (t : List (List (Option ℤ))) (k n : ℕ) → k ≤ 32 → n ≡ k → Blank 32 t → Blank k (take n t)
-blank_part t k n few e b =
-    record { none = λ i j hi hj. ap (λ (r : List (Option ℤ)). get_or r j None) (get_or-take n t i [] (omega arith)) ∙ b.none i j (omega arith) (omega arith) }
-
 -- from the refusal of the links to the whole answer
 pub checked_links : (k : ℕ) (links : List Link) (ss : List ℕ) (f : Fault) → links_refusal k links ≡ Some f → RingsChecked k links ss (Err f)
 checked_links k links ss f e = subst (λ (o : Option Fault). MatchOption o (RingsAnswer k links ss (Err f)) (λ g. ◌≡◌ {A = Result (Unit {0}) Fault} (Err f) (Err g))) (sym e) refl
 
-pub checked_rings : (k : ℕ) (links : List Link) (ss : List ℕ) (o : Option Fault) (r : Result (Unit {0}) Fault) → links_refusal k links ≡ None → RingsJudged k links ss o → r ≡ answer o → RingsChecked k links ss r
-checked_rings k links ss o r e j a = subst (λ (p : Option Fault). MatchOption p (RingsAnswer k links ss r) (λ g. r ≡ Err g)) (sym e) (o, j, a)
+pub checked_rings : (k : ℕ) (links : List Link) (ss : List ℕ) (r : Result (Unit {0}) Fault) → links_refusal k links ≡ None → RingsAnswer k links ss r → RingsChecked k links ss r
+checked_rings k links ss r e a = subst (λ (p : Option Fault). MatchOption p (RingsAnswer k links ss r) (λ g. r ≡ Err g)) (sym e) a
 
 -- a table of nothing
-no_entry : (n j : ℕ) → ◌≡◌ {A = Option ℤ} (get_or (replicate n None) j None) None
-no_entry zero j = refl
-no_entry (suc n) zero = refl
-no_entry (suc n) (suc j) = no_entry n j
-
-each_row : (row : List (Option ℤ)) (m i : ℕ) → i < m → get_or (replicate m row) i [] ≡ row
-each_row row zero i l = absurd (omega arith)
-each_row row (suc m) zero l = refl
-each_row row (suc m) (suc i) l = each_row row m i (omega arith)
+entry_none : (n j : ℕ) → ◌≡◌ {A = Option ℤ} (get_or (replicate n None) j None) None
+entry_none zero j = refl
+entry_none (suc n) zero = refl
+entry_none (suc n) (suc j) = entry_none n j
 
 pub blank_all : (m n : ℕ) → Blank m (replicate m (replicate n None))
-blank_all m n = record { none = λ i j hi hj. ap (λ (r : List (Option ℤ)). get_or r j None) (each_row (replicate n None) m i hi) ∙ no_entry n j }
+blank_all m n = record {
+  none = λ i j hi hj.
+      ap (λ (r : List (Option ℤ)). get_or r j None) (get_or-replicate m i (replicate n None) [] (omega arith)) ∙ entry_none n j;
+}
+
+pub blank_leading : (k : ℕ) (t : List (List (Option ℤ))) → k ≤ 32 → Blank 32 t → Blank k t
+blank_leading k t few b = record { none = λ i j hi hj. b.none i j (omega arith) (omega arith) }

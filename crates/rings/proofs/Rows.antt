@@ -1,5 +1,6 @@
 -- The loops over a row and over the rows of a table.
-use Rattle.std.proofs.Common.{◌≡◌, ℕ, ◌+◌, ◌<◌, ◌≤◌, List, [], length, get_or, set, ℤ, None, Option, refl, ap, ◌∙◌, arith}
+use Rattle.std.proofs.Common.{◌≡◌, ℕ, ◌+◌, ◌<◌, ◌≤◌, List, [], ◌++◌, length, get_or, set, take, ℤ, None, Option, ap, ◌∙◌, arith, refl, length-take, get_or-take}
+use Rattle.std.proofs.Math.ListN.{get_or-append}
 use Rattle.rings.specs.Tables.{entry, at, shorter, joined, Relaxed, Stepped}
 use Rattle.rings.proofs.Writes.{Writes, writes_none, writes_more}
 
@@ -15,22 +16,42 @@ pub relaxing_more : (old through : List (Option ℤ)) (leg : Option ℤ) (now : 
 relaxing_more old through leg now j v l r e =
     record { writes = writes_more None _ old now j v l r.writes (e ∙ ap (λ o. shorter o (joined leg (entry through j))) (r.writes.rest j (omega arith))) }
 
--- a table after i of its rows went by column m
-pub record Passing (m : ℕ) (old now : List (List (Option ℤ))) (i : ℕ) : Type 0 where
-  pub writes : Writes [] (λ q row. Relaxed (length old) (get_or old q []) (get_or old m []) (at old q m) row) old now i
-
-pub passing_none : (m : ℕ) (old : List (List (Option ℤ))) → Passing m old old 0
-passing_none m old = record { writes = writes_none [] _ old old refl }
-
-pub passing_more : (m : ℕ) (old now : List (List (Option ℤ))) (i k : ℕ) (leg : Option ℤ) (row : List (Option ℤ)) → i < length old → k ≡ length old
-    → Passing m old now i → leg ≡ at now i m → Relaxed k (get_or now i []) (get_or old m []) leg row → Passing m old (set now i row) (i + 1)
-passing_more m old now i k leg row l ek p e r =
-    let same = p.writes.rest i (omega arith) in
-    let leg-is : leg ≡ at old i m = e ∙ ap (λ (xs : List (Option ℤ)). get_or xs m None) same in
+-- the leading entries of a row are relaxed, and the row's end follows them
+pub relaxing_all : (n : ℕ) (row through : List (Option ℤ)) (leg : Option ℤ) (now end : List (Option ℤ)) (j : ℕ) → n ≤ length row → length (take n row) ≤ j
+    → Relaxing (take n row) through leg now j → Relaxed n row through leg (now ++ end)
+relaxing_all n row through leg now end j few all r =
     record {
-      writes = writes_more [] _ old now i row l p.writes
-          (record { is = λ j h. r.is j (omega (arith, ek)) ∙ (λ n. shorter (entry (same n) j) (joined (leg-is n) (entry (get_or old m []) j))) });
+      is = λ i l.
+          let long = length-take n row in
+          get_or-append now end None i (omega (arith, r.writes.long)) ∙ r.writes.done i (omega arith)
+          ∙ ap (λ o. shorter o (joined leg (entry through i))) (get_or-take n row i None l);
     }
 
-pub passing_all : (m : ℕ) (old now : List (List (Option ℤ))) (i : ℕ) → length old ≤ i → Passing m old now i → Stepped (length old) m (at old) (at now)
-passing_all m old now i h p = record { is = λ a b ha hb. (p.writes.done a (omega arith)).is b hb }
+-- the leading k rows of a table after i of them went by column m
+pub record Passing (k m : ℕ) (old now : List (List (Option ℤ))) (i : ℕ) : Type 0 where
+  pub writes : Writes [] (λ q row. Relaxed k (get_or old q []) (get_or old m []) (at old q m) row) (take k old) now i
+
+pub passing_none : (k m : ℕ) (old : List (List (Option ℤ))) → Passing k m old (take k old) 0
+passing_none k m old = record { writes = writes_none [] _ _ _ refl }
+
+-- a row that is still to go by column m is as it was
+pub still : (k m : ℕ) (old now : List (List (Option ℤ))) (i : ℕ) → i < length (take k old) → Passing k m old now i → get_or now i [] ≡ get_or old i []
+still k m old now i l p = p.writes.rest i (omega arith) ∙ get_or-take k old i [] (omega (arith, length-take k old))
+
+pub passing_more : (k m : ℕ) (old now : List (List (Option ℤ))) (i : ℕ) (row : List (Option ℤ)) → i < length (take k old)
+    → Passing k m old now i → Relaxed k (get_or now i []) (get_or old m []) (at now i m) row → Passing k m old (set now i row) (i + 1)
+passing_more k m old now i row l p r =
+    let same = still k m old now i l p in
+    record {
+      writes = writes_more [] _ (take k old) now i row l p.writes
+          (record { is = λ j h. r.is j h ∙ (λ x. shorter (entry (same x) j) (joined (entry (same x) m) (at old m j))) });
+    }
+
+pub passing_all : (k m : ℕ) (old now end : List (List (Option ℤ))) (i : ℕ) → k ≤ length old → length (take k old) ≤ i → Passing k m old now i
+    → Stepped k m (at old) (at (now ++ end))
+passing_all k m old now end i few all p =
+    record {
+      is = λ a b ha hb.
+          let long = length-take k old in
+          ap (λ (row : List (Option ℤ)). entry row b) (get_or-append now end [] a (omega (arith, p.writes.long))) ∙ (p.writes.done a (omega arith)).is b hb;
+    }

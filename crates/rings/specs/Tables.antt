@@ -1,7 +1,7 @@
 -- The table of walks: for two columns the length of a walk that leads from one to the other, or none.
-use Rattle.std.specs.Prelude.{◌≡◌, ℕ, zero, suc, ◌<◌, Bool, true, false, not, ◌&&◌, ◌||◌, List, [], ◌∷◌, ℤ, pos, negsuc, ◌+ℤ◌, ◌≤ℤ◌, is_some, Some, None, Option, ◌==◌, int_lt, nat_lt, slice_index_or}
+use Rattle.std.specs.Prelude.{◌≡◌, ℕ, ◌<◌, Bool, true, false, not, ◌&&◌, ◌||◌, List, [], ℤ, pos, negsuc, ◌+ℤ◌, ◌≤ℤ◌, is_some, Some, None, Option, IfSome, ◌==◌, int_lt, nat_lt, slice_index_or}
 use Rattle.std.specs.Int.{int_min}
-use Rattle.std.specs.List.{ContainsAt as Has}
+use Rattle.std.specs.List.{list_any, range_with_len, ContainsAt as Has}
 use Rattle.std.specs.Ordering.{int_eq}
 use Rattle.differences.specs.declared.link.Link.{Link}
 use Rattle.rings.specs.Rings.{Walk}
@@ -49,11 +49,6 @@ pub record Walks (k : ℕ) (links : List Link) (m : ℕ) (d : ℕ → ℕ → Op
   pub short : (C : ℕ → Bool) → Convex links k C → NoneBelow k C d → (i n j : ℕ) → i < k → n < k → j < k → n < m
       → C i ≡ true → C n ≡ true → C j ≡ true → (a b : ℤ) → d i n ≡ Some a → d n j ≡ Some b → AtMost (d i j) (a +ℤ b)
 
--- f holds of some number below n
-abbrev pub any_below : ℕ → (ℕ → Bool) → Bool
-any_below zero f = false
-any_below (suc n) f = f n || any_below n f
-
 -- some walk leads from i to j, the empty one too
 abbrev pub reaches : (ℕ → ℕ → Option ℤ) → ℕ → ℕ → Bool
 reaches d i j = i == j || is_some (d i j)
@@ -68,7 +63,7 @@ ring_by d i j = (reaches d i j && reaches d j i) && negative (d j j)
 
 -- column i reaches a column that shows a ring below 0, and is reached from it
 abbrev pub on_ring_below : ℕ → (ℕ → ℕ → Option ℤ) → ℕ → Bool
-on_ring_below k d i = any_below k (ring_by d i)
+on_ring_below k d i = list_any (ring_by d i) (range_with_len 0 k)
 
 abbrev pub zero_sum : Option ℤ → Option ℤ → Bool
 zero_sum None b = false
@@ -84,13 +79,15 @@ tied_to k d p q = nat_lt q k && shows_tie d p q
 
 -- column p and one of the summands show a tie
 abbrev pub tied_among : ℕ → (ℕ → ℕ → Option ℤ) → ℕ → List ℕ → Bool
-tied_among k d p [] = false
-tied_among k d p (q ∷ qs) = tied_to k d p q || tied_among k d p qs
+tied_among k d p ss = list_any (tied_to k d p) ss
+
+-- p is one of the summands, and the table shows it tied to one of them
+abbrev pub is_tied : ℕ → (ℕ → ℕ → Option ℤ) → List ℕ → ℕ → Bool
+is_tied k d ss p = list_any (λ q. q == p) ss && tied_among k d p ss
 
 -- two such lengths can be added
 abbrev pub Moderate : Option ℤ → Type 0
-Moderate None = Unit {0}
-Moderate (Some v) = (negsuc 2305843009213693951 ≤ℤ v) × (v ≤ℤ pos 2305843009213693952)
+Moderate o = IfSome o (λ v. (negsuc 2305843009213693951 ≤ℤ v) × (v ≤ℤ pos 2305843009213693952))
 
 pub record ModerateRow (k : ℕ) (row : List (Option ℤ)) : Type 0 where
   pub each : (j : ℕ) → j < k → Moderate (entry row j)
@@ -104,8 +101,7 @@ pub record Relaxed (k : ℕ) (r through : List (Option ℤ)) (leg : Option ℤ) 
 
 -- each entry lies from -b to b
 abbrev pub Within : ℕ → Option ℤ → Type 0
-Within b None = Unit {0}
-Within b (Some v) = (pos 0 ≤ℤ (v +ℤ pos b)) × (v ≤ℤ pos b)
+Within b o = IfSome o (λ v. (pos 0 ≤ℤ (v +ℤ pos b)) × (v ≤ℤ pos b))
 
 pub record Bounded (k b : ℕ) (d : ℕ → ℕ → Option ℤ) : Type 0 where
   pub each : (i j : ℕ) → i < k → j < k → Within b (d i j)
@@ -126,21 +122,7 @@ pub record Entered (k : ℕ) (links : List Link) (d : ℕ → ℕ → Option ℤ
   pub bounded : Bounded k 60000000 d
   pub walks : Walks k links 0 d
 
--- e is d closed: of all links that d tells the walks by no column, e tells the walks by all
-pub record Closes (k : ℕ) (d e : ℕ → ℕ → Option ℤ) : Type 0 where
-  pub bounded : Bounded k 257698037760000000 e
-  pub walks : (links : List Link) → GoodLinks k links → Walks k links 0 d → Walks k links k e
-
--- the smallest column that the table shows on a ring below 0, if there is any
-abbrev pub FirstOnRing : ℕ → (ℕ → ℕ → Option ℤ) → Option ℕ → Type 0
-FirstOnRing k d None = (i : ℕ) → i < k → on_ring_below k d i ≡ false
-FirstOnRing k d (Some i) = (i < k) × (on_ring_below k d i ≡ true) × ((j : ℕ) → j < i → on_ring_below k d j ≡ false)
-
--- p is one of the summands, and the table shows it tied to one of them
-abbrev pub ShowsTied : ℕ → (ℕ → ℕ → Option ℤ) → List ℕ → ℕ → Type 0
-ShowsTied k d ss p = Has ss p × (tied_among k d p ss ≡ true)
-
--- the smallest such summand, if there is any
-abbrev pub FirstTied : ℕ → (ℕ → ℕ → Option ℤ) → List ℕ → Option ℕ → Type 0
-FirstTied k d ss None = (p : ℕ) → p < k → ShowsTied k d ss p → ⊥
-FirstTied k d ss (Some p) = (p < k) × ShowsTied k d ss p × ((q : ℕ) → q < p → ShowsTied k d ss q → ⊥)
+-- the smallest number below k at which f is true, if there is any
+abbrev pub FirstBelow : ℕ → (ℕ → Bool) → Option ℕ → Type 0
+FirstBelow k f None = (i : ℕ) → i < k → f i ≡ false
+FirstBelow k f (Some i) = (i < k) × (f i ≡ true) × ((j : ℕ) → j < i → f j ≡ false)

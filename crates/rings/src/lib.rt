@@ -3,7 +3,6 @@
 #![tactic(auto)]
 
 pub mod checks;
-mod rings_found;
 mod walks;
 
 pub use checks::check_rings;

@@ -1,18 +1,23 @@
-use Rattle.std.proofs.Common.{arith}
-use Rattle.rings.specs.Tables.{at}
+use Rattle.std.proofs.Common.{Some, None, refl}
+use Rattle.rules.specs.declared.fault.Fault.TheVariants.{NegativeRing, TiedSummands}
 use Rattle.rings.proofs.Judging.{judged_ring, judged_tied, judged_neither}
+use Rattle.rings.proofs.Offered.{taken}
 use Rattle.rings.proofs.checks.judge.Goals as goal
 
 pub returns-in-Some : goal.returns-in-Some
 returns-in-Some c =
-    judged_ring _ _ _ c.args.links.now _ (at c.enter.new.table) (at c.close.new.table) (omega arith) (omega arith) c.requires.good c.enter.ensures c.close.ensures _ c.in-Some.ensures
+    let same = c.of-table.ensures.columns in
+    (Some (NegativeRing c.in-Some.column), judged_ring _ _ (taken _ _ c.requires).good _ c.of-table.ensures.walks _ _ (rw same at c.in-Some.ensures), refl)
 
 pub returns-in-Some-first_tied : goal.returns-in-Some-first_tied
 returns-in-Some-first_tied c =
-    judged_tied _ _ _ c.args.links.now c.args.summands.now (at c.enter.new.table) (at c.close.new.table) (omega arith) (omega arith) c.requires.good c.enter.ensures c.close.ensures
-    c.in_default.ensures _ c.in-Some-first_tied.ensures
+    let same = c.of-table.ensures.columns in (
+      Some (TiedSummands c.in-Some-first_tied.column),
+      judged_tied _ _ (taken _ _ c.requires).good _ c.of-table.ensures.walks _ (rw same at c.in_default.ensures) _ (rw same at c.in-Some-first_tied.ensures),
+      refl,
+    )
 
-pub returns-in-None : goal.returns-in-None
-returns-in-None c =
-    judged_neither _ _ _ c.args.links.now c.args.summands.now (at c.enter.new.table) (at c.close.new.table) (omega arith) (omega arith) c.requires.good c.enter.ensures c.close.ensures
-    c.in_default.ensures c.in-None.ensures
+pub returns : goal.returns
+returns c =
+    let same = c.of-table.ensures.columns in
+    (None, judged_neither _ _ (taken _ _ c.requires).good _ c.of-table.ensures.walks _ (rw same at c.in_default.ensures) (rw same at c.in_default-first_tied.ensures), refl)
