@@ -1,5 +1,5 @@
 -- Leading windows and values, and a rule that binds them.
-use Rattle.std.proofs.Common.{◌≡◌, ℕ, zero, suc, ◌-◌, ◌<◌, ◌≤◌, min, Bool, true, List, [], ◌∷◌, ◌++◌, map, length, take, drop, set, ℤ, None, Ok, Err, Result, sym, refl, ap, ◌∙◌, subst, inl, inr, arith, rules}
+use Rattle.std.proofs.Common.{◌≡◌, ℕ, zero, suc, ◌-◌, ◌<◌, ◌≤◌, min, Bool, true, List, [], ◌∷◌, ◌++◌, map, length, take, drop, set, ℤ, None, Ok, Err, IsOk, Result, sym, refl, ap, ◌∙◌, subst, inl, inr, arith, rules}
 use native.Mathlib.Numerals.{unary_clauses}
 use Rattle.std.proofs.lemmas.Bool.{and_parts, and_from, cases_lt}
 use Rattle.std.proofs.lemmas.List.{length-take, length-take-le, take-append-drop, take_at, get_or-take, get_or_append_left, get_or-append_right, get_or-set_same, length-append}
@@ -208,5 +208,7 @@ module _ (m m' : Meaning) (n : ℕ) (vs ys : List Window) (same : m' ≡ m) (wid
       let wide-ys : length ys ≡ m.scope.width = omega (arith, length-take n vs) in
       subst (λ (k : ℕ). Narrowed (on_leading (length vs) m) vs (Ok v) (ys ++ drop k vs)) (sym wide) (asked_leading m vs ok (omega arith) room ys v wide-ys (asked_again (Ok v) h))
 
-  pub not_refused : (f : Fault) → Narrowed m' (take n vs) (Err f) ys → ⊥
-  not_refused f h = never_refused m vs ok (omega arith) room ys f (asked_again (Err f) h)
+  -- it does not refuse them
+  pub answered : (r : Result Verdict Fault) → Narrowed m' (take n vs) r ys → IsOk r
+  answered (Ok v) h = refl
+  answered (Err f) h = absurd (never_refused m vs ok (omega arith) room ys f (asked_again (Err f) h))

@@ -1,5 +1,5 @@
 -- What one of two rules leaves, from what each of them leaves.
-use Rattle.std.proofs.Common.{◌≡◌, ℕ, ◌<◌, max, Bool, true, false, ◌||◌, ◌⊎◌, List, length, ℤ, None, Ok, sym, refl, ap, ◌∙◌, subst, ⊎_elim, arith}
+use Rattle.std.proofs.Common.{◌≡◌, ℕ, ◌<◌, Bool, true, false, ◌||◌, ◌⊎◌, List, length, ℤ, None, Ok, sym, refl, ap, ◌∙◌, subst, ⊎_elim, arith}
 use lib.Signed.{lt_z}
 use Rattle.std.specs.Int.{int_max, int_min}
 use Rattle.std.proofs.lemmas.Int.{ints, clamps}
@@ -15,7 +15,7 @@ use Rattle.rules.proofs.Failing.{taken}
 use Rattle.layers.specs.Leading.{on_leading}
 use Rattle.layers.specs.Either.{spanned, either_meaning}
 use Rattle.layers.specs.Owning.{own_rule}
-use Rattle.layers.proofs.Owning.{own_settles, taken_below}
+use Rattle.layers.proofs.Owning.{own_settles}
 
 -- a value that is supported stays so in wider windows, where more is allowed
 supported_wider : (P R : List ℤ → Bool) (us ws : List Window) → ((x : List ℤ) → P x ≡ true → R x ≡ true) → inside us ws ≡ true → (i : ℕ) (v : ℤ) → Supported P us i v → Supported R ws i v
@@ -159,10 +159,6 @@ module _ (a b : Meaning) (vs : List Window) (ok : window_refusal (either_meaning
 pub copy_asked : (a : Meaning) (vs copy us : List Window) (v : Verdict) → copy ≡ vs → Narrowed (on_leading (length copy) a) copy (Ok v) us → Narrowed (on_leading (length vs) a) vs (Ok v) us
 copy_asked a vs copy us v e h = subst (λ (zs : List Window). Narrowed (on_leading (length zs) a) zs (Ok v) us) e h
 
--- the columns of both rules were asked for first
-module _ (a a' b b' : Meaning) (one : a' ≡ a) (other : b' ≡ b) (vs : List Window) where
-  pub either_same : either_meaning a' b' ≡ either_meaning a b
-  either_same = λ i. either_meaning (one i) (other i)
-
-  pub either_taken : (n : ℕ) → n ≡ max a.scope.width b.scope.width → window_refusal n vs ≡ None → window_refusal (either_meaning a' b').scope.width vs ≡ None
-  either_taken n wide ok = taken_below (either_meaning a b) (either_meaning a' b') n vs either_same wide ok
+-- rules of the same meanings
+pub either_same : (a a' b b' : Meaning) → a ≡ a' → b ≡ b' → either_meaning a b ≡ either_meaning a' b'
+either_same a a' b b' one other = λ i. either_meaning (one i) (other i)

@@ -1,8 +1,9 @@
 -- Windows inside others: where they differ, the total width is smaller.
-use Rattle.std.proofs.Common.{◌≡◌, ◌+◌, ◌<◌, ◌≤◌, true, List, [], ◌∷◌, ◌++◌, length, ℤ, pos, negsuc, ◌-ℤ◌, nat_abs, ◌≤ℤ◌, refl, ◌∙◌, arith, w32, SFits, to_z, of_z, rules}
+use Rattle.std.proofs.Common.{◌≡◌, ◌*◌, ◌<◌, ◌≤◌, true, List, [], ◌∷◌, length, ℤ, pos, negsuc, ◌-ℤ◌, nat_abs, ◌≤ℤ◌, refl, ◌∙◌, subst, arith, w32, SFits, to_z, of_z, rules}
 use Rattle.std.proofs.lemmas.Bool.{and_parts}
 use Rattle.std.proofs.lemmas.Int.{ints, to_z-of_z}
-use Rattle.std.proofs.lemmas.List.{ext_get_or}
+use Rattle.std.proofs.lemmas.List.{ext_get_or, get_or_default}
+use Rattle.std.proofs.lemmas.List.Sums.{sum_by-cons, sum_by-le}
 use Rattle.rules.specs.declared.window.Window.{Window}
 use Rattle.rules.specs.Plans.{all_lawful, window_at, inside, Single}
 use Rattle.rules.proofs.Windows.{Ends, lawful_ends, lawful_at, Within, within, inside_at, inside-length}
@@ -49,7 +50,7 @@ total_le (w ∷ ws) (v ∷ vs) h ok =
     let o = lawful_parts w ws ok in
     let a = width_le w v i.0 o.0 in
     let b = total_le ws vs i.1 o.1 in
-    omega arith
+    omega (arith, sum_by-cons window_width w ws, sum_by-cons window_width v vs)
 
 -- and if they are as wide, they are the same
 pub total_same : (ws vs : List Window) → inside ws vs ≡ true → all_lawful ws ≡ true → total_width vs ≤ total_width ws → ws ≡ vs
@@ -61,6 +62,8 @@ total_same (w ∷ ws) (v ∷ vs) h ok e =
     let o = lawful_parts w ws ok in
     let a = width_le w v i.0 o.0 in
     let b = total_le ws vs i.1 o.1 in
+    let one = sum_by-cons window_width w ws in
+    let other = sum_by-cons window_width v vs in
     let here = same_window w v i.0 o.0 (omega arith) in
     let rest = total_same ws vs i.1 o.1 (omega arith) in
     λ j. here j ∷ rest j
@@ -75,11 +78,6 @@ single_same ws vs h ok one =
     let inner = inside_at ws vs i h l in
     same_window (window_at ws i) (window_at vs i) inner ends (omega (arith, ints, width_is (window_at ws i) ends.order, width_is (window_at vs i) (omega (arith, ints))))
 
--- one window more at the end
-pub total_push : (ws : List Window) (w : Window) → total_width (ws ++ w ∷ []) ≡ total_width ws + window_width w
-total_push [] w = omega arith
-total_push (v ∷ ws) w = let r = total_push ws w in omega arith
-
 -- the width as the code has it, a difference of 32 bits
 module _ (w : Window) (a b : ℤ) (e : Ends w) (p : a ≡ w.last) (q : b ≡ w.first) where
   pub difference_fits : SFits w32 (a -ℤ b)
@@ -90,3 +88,10 @@ module _ (w : Window) (a b : ℤ) (e : Ends w) (p : a ≡ w.last) (q : b ≡ w.f
 
 pub width_most : (w : Window) → Ends w → window_width w ≤ 60000000
 width_most w e = omega (arith, ints, width_is w e.order)
+
+-- at most 32 windows are not wider than a number of 64 bits
+pub total_most : (ws : List Window) → all_lawful ws ≡ true → length ws ≤ 32 → total_width ws ≤ 32 * 60000000
+total_most ws ok few =
+    let most = sum_by-le window_width 60000000 ws (λ k d l.
+    subst (λ (w : Window). window_width w ≤ 60000000) (get_or_default ws k _ d l) (width_most (window_at ws k) (lawful_ends _ (lawful_at ws k ok l)))) in
+    omega arith

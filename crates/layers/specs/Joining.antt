@@ -1,5 +1,6 @@
 -- Several rules that bind one board together.
-use Rattle.std.specs.Prelude.{◌≡◌, ℕ, ◌+◌, max, Bool, true, false, ◌&&◌, List, [], ◌∷◌, ◌++◌, ℤ, ◌-ℤ◌, unsigned_abs}
+use Rattle.std.specs.Prelude.{◌≡◌, ℕ, max, Bool, true, false, ◌&&◌, List, [], ◌∷◌, ◌++◌, ℤ, ◌-ℤ◌, unsigned_abs}
+use Rattle.std.specs.List.{sum_by}
 use Rattle.rules.specs.declared.window.Window.{Window}
 use Rattle.rules.specs.declared.verdict.Verdict.{Verdict}
 use Rattle.rules.specs.declared.verdict.Verdict.TheVariants.{Open, Void}
@@ -31,8 +32,7 @@ abbrev pub window_width : Window → ℕ
 window_width w = unsigned_abs (w.last -ℤ w.first)
 
 abbrev pub total_width : List Window → ℕ
-total_width [] = 0
-total_width (w ∷ ws) = window_width w + total_width ws
+total_width ws = sum_by window_width ws
 
 -- each rule was asked once, in turn, and none was void: the windows vs were cut down to ws
 pub record Turn (ms : List Meaning) (vs ws : List Window) : Type 0 where

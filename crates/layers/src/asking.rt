@@ -16,10 +16,7 @@ pub(crate) fn ask<R: Rule>(rule: &mut R, windows: &mut [Window]) -> Verdict
     ensures outcome { Narrowed (on_leading (length windows.old) (R.Rule.meaning rule.old)) windows.old (Ok result) windows.new }
 {
     let columns = rule.columns();
-    match rule.narrow(&mut windows[0..columns]) {
-        Ok(verdict) => verdict,
-        Err(_) => unreachable(),
-    }
+    rule.narrow(&mut windows[0..columns]).unwrap()
 }
 
 /// Asks a rule on windows in its own number.
@@ -28,8 +25,5 @@ pub(crate) fn ask_all<R: Rule>(rule: &mut R, windows: &mut [Window]) -> Verdict
     ensures same { R.Rule.meaning rule.new ≡ R.Rule.meaning rule.old }
     ensures outcome { Narrowed (R.Rule.meaning rule.old) windows.old (Ok result) windows.new }
 {
-    match rule.narrow(windows) {
-        Ok(verdict) => verdict,
-        Err(_) => unreachable(),
-    }
+    rule.narrow(windows).unwrap()
 }

@@ -39,9 +39,8 @@ impl<'a, R: Rule + Copy> InTurn for Each<'a, R> {
     fn turn(&mut self, windows: &mut [Window]) -> Verdict {
         for lent in self.rules {
             let mut copy = *lent;
-            match ask(&mut copy, windows) {
-                Verdict::Open => {}
-                Verdict::Void => return Verdict::Void,
+            if let Verdict::Void = ask(&mut copy, windows) {
+                return Verdict::Void;
             }
         }
         Verdict::Open

@@ -1,9 +1,7 @@
 //! Two rules of which one is enough.
 
-ghost use Rattle.std.specs.Prelude.{◌≡◌, ℕ, ◌<◌, max, length, None, Ok};
+ghost use Rattle.std.specs.Prelude.{◌≡◌, ℕ, ◌<◌, length};
 ghost use Rattle.rules.specs.Plans.{window_at};
-ghost use Rattle.rules.specs.Refusals.{window_refusal};
-ghost use Rattle.rules.specs.Meaning.{Narrowed};
 ghost use Rattle.layers.specs.Either.{either_meaning, spanned};
 
 use crate::asking::ask;
@@ -38,38 +36,20 @@ impl<A: Rule, B: Rule> Rule for Either<A, B> {
     }
 
     fn narrow(&mut self, windows: &mut [Window]) -> Result<Verdict, Fault> {
-        let most = self.one.columns().max(self.other.columns());
-        check_windows(most, windows)?;
-        let mut copy = [Window { first: 0, last: 0 }; MOST_COLUMNS];
-        Ok(narrow_either(&mut self.one, &mut self.other, &mut copy[0..most], windows))
-    }
-}
-
-/// Asks one rule on a copy of the windows, and the other on the windows themselves, and joins what they leave.
-fn narrow_either<A: Rule, B: Rule>(
-    one: &mut A,
-    other: &mut B,
-    copy: &mut [Window],
-    windows: &mut [Window],
-) -> Verdict
-    requires taken { window_refusal (max (A.Rule.meaning one.old).scope.width (B.Rule.meaning other.old).scope.width) windows.old ≡ None }
-    requires even { length copy.old ≡ length windows.old }
-    ensures one { A.Rule.meaning one.new ≡ A.Rule.meaning one.old }
-    ensures other { B.Rule.meaning other.new ≡ B.Rule.meaning other.old }
-    ensures outcome { Narrowed (either_meaning (A.Rule.meaning one.old) (B.Rule.meaning other.old)) windows.old (Ok result) windows.new }
-{
-    copy.copy_from_slice(windows);
-    let first = ask(one, copy);
-    let second = ask(other, windows);
-    match first {
-        Verdict::Void => second,
-        Verdict::Open => {
-            match second {
-                Verdict::Void => windows.copy_from_slice(copy),
-                Verdict::Open => span_all(copy, windows),
-            }
-            Verdict::Open
+        check_windows(self.columns(), windows)?;
+        let mut room = [Window { first: 0, last: 0 }; MOST_COLUMNS];
+        let copy = &mut room[..windows.len()];
+        copy.copy_from_slice(windows);
+        let one = ask(&mut self.one, copy);
+        let other = ask(&mut self.other, windows);
+        if let Verdict::Void = one {
+            return Ok(other);
         }
+        match other {
+            Verdict::Void => windows.copy_from_slice(copy),
+            Verdict::Open => span_all(copy, windows),
+        }
+        Ok(Verdict::Open)
     }
 }
 
@@ -78,8 +58,9 @@ fn span_all(list: &[Window], windows: &mut [Window])
     requires { length list.now ≡ length windows.old }
     ensures { (k : ℕ) → k < length windows.old → window_at windows.new k ≡ spanned (window_at list.now k) (window_at windows.old k) }
 {
-    for (i, window) in list.iter().enumerate() {
-        windows[i] = span(*window, windows[i]);
+    // An index, not `zip`: after a `zip` over `iter_mut` nothing is known of what was written.
+    for (i, window) in windows.iter_mut().enumerate() {
+        *window = span(list[i], *window);
     }
 }
 

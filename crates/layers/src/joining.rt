@@ -1,7 +1,7 @@
 //! Several rules asked in turn, until one is void or a whole turn changes no window.
 
 ghost use Rattle.std.specs.Prelude.{◌≡◌, ◌≤◌, true, List, length, None, Ok};
-ghost use Rattle.rules.specs.Plans.{lawful, all_lawful};
+ghost use Rattle.rules.specs.Plans.{all_lawful};
 ghost use Rattle.rules.specs.Refusals.{window_refusal};
 ghost use Rattle.rules.specs.Meaning.{Meaning, Narrowed};
 ghost use Rattle.layers.specs.Joining.{most_columns, joint, window_width, total_width, Turned, FixedPoint};
@@ -33,26 +33,14 @@ pub(crate) fn narrow_together<T: InTurn>(
     ensures outcome { Narrowed (joint (T.InTurn.meanings rules.old)) windows.old result windows.new }
 {
     check_windows(columns, windows)?;
-    let mut work = [Window { first: 0, last: 0 }; MOST_COLUMNS];
-    Ok(narrow_copy(rules, &mut work[0..columns], windows))
-}
-
-/// Asks the rules on a copy of the windows, and writes back what they leave of it.
-fn narrow_copy<T: InTurn>(rules: &mut T, copy: &mut [Window], windows: &mut [Window]) -> Verdict
-    requires taken { window_refusal (most_columns (T.InTurn.meanings rules.old)) windows.old ≡ None }
-    requires few { length windows.old ≤ 32 }
-    requires even { length copy.old ≡ length windows.old }
-    ensures same { T.InTurn.meanings rules.new ≡ T.InTurn.meanings rules.old }
-    ensures outcome { Narrowed (joint (T.InTurn.meanings rules.old)) windows.old (Ok result) windows.new }
-{
+    let mut room = [Window { first: 0, last: 0 }; MOST_COLUMNS];
+    let copy = &mut room[..columns];
     copy.copy_from_slice(windows);
-    match settle(rules, copy) {
-        Verdict::Open => {
-            windows.copy_from_slice(copy);
-            Verdict::Open
-        }
-        Verdict::Void => Verdict::Void,
+    let verdict = settle(rules, copy);
+    if let Verdict::Open = verdict {
+        windows.copy_from_slice(copy);
     }
+    Ok(verdict)
 }
 
 /// Asks the rules, turn after turn.
@@ -64,13 +52,11 @@ fn settle<T: InTurn>(rules: &mut T, windows: &mut [Window]) -> Verdict
 {
     'turns: loop {
         let before = total_width(windows);
-        match rules.turn(windows) {
-            Verdict::Open => {
-                if total_width(windows) == before {
-                    return Verdict::Open;
-                }
-            }
-            Verdict::Void => return Verdict::Void,
+        if let Verdict::Void = rules.turn(windows) {
+            return Verdict::Void;
+        }
+        if total_width(windows) == before {
+            return Verdict::Open;
         }
     }
 }
@@ -81,18 +67,12 @@ fn total_width(windows: &[Window]) -> u64
     requires few { length windows.now ≤ 32 }
     ensures { result ≡ total_width windows.now }
 {
-    let mut total = 0;
-    for window in windows {
-        total += window_width(*window);
-    }
-    total
+    windows.iter().map(window_width).sum()
 }
 
-/// How far the last value of a window is above its first.
-fn window_width(window: Window) -> u64
-    requires { lawful window ≡ true }
-    ensures value { result ≡ window_width window }
-    ensures most { result ≤ 60000000 }
+/// How far the last value of a window is from its first.
+fn window_width(window: &Window) -> u64
+    ensures { result ≡ window_width window.now }
 {
-    (window.last - window.first) as u64
+    u64::from(window.last.abs_diff(window.first))
 }

@@ -1,8 +1,7 @@
 //! A rule on shifted columns.
 
-ghost use Rattle.std.specs.Prelude.{◌≡◌, [], length, None, Ok, MatchResult};
-ghost use Rattle.rules.specs.Refusals.{answer, window_refusal};
-ghost use Rattle.rules.specs.Meaning.{Narrowed};
+ghost use Rattle.std.specs.Prelude.{◌≡◌, [], MatchResult};
+ghost use Rattle.rules.specs.Refusals.{answer};
 ghost use Rattle.layers.specs.Offset.{offset_meaning, offset_refusal, OffsetJudged};
 ghost use Rattle.layers.specs.Shifts.{shifts_of};
 
@@ -62,39 +61,17 @@ impl<R: Rule> Rule for Offset<R> {
     }
 
     fn narrow(&mut self, windows: &mut [Window]) -> Result<Verdict, Fault> {
-        let columns = self.rule.columns();
-        check_windows(columns, windows)?;
-        let mut below = [Window { first: 0, last: 0 }; MOST_COLUMNS];
-        Ok(narrow_shifted(
-            &mut self.rule,
-            &self.shifts,
-            &mut below[0..columns],
-            windows,
-        ))
-    }
-}
-
-/// Asks a rule on the shifted windows, and writes back what it leaves of them.
-fn narrow_shifted<R: Rule>(
-    rule: &mut R,
-    shifts: &Shifts,
-    below: &mut [Window],
-    windows: &mut [Window],
-) -> Verdict
-    requires taken { window_refusal (R.Rule.meaning rule.old).scope.width windows.old ≡ None }
-    requires even { length below.old ≡ length windows.old }
-    ensures same { R.Rule.meaning rule.new ≡ R.Rule.meaning rule.old }
-    ensures outcome { Narrowed (offset_meaning (R.Rule.meaning rule.old) (shifts_of shifts.now)) windows.old (Ok result) windows.new }
-{
-    shifts.lower(windows, below);
-    if check_windows(below.len(), below).is_err() {
-        return Verdict::Void;
-    }
-    match ask_all(rule, below) {
-        Verdict::Open => {
-            shifts.raise(below, windows);
-            Verdict::Open
+        check_windows(self.rule.columns(), windows)?;
+        let mut room = [Window { first: 0, last: 0 }; MOST_COLUMNS];
+        let below = &mut room[..windows.len()];
+        self.shifts.lower(windows, below);
+        if check_windows(below.len(), below).is_err() {
+            return Ok(Verdict::Void);
         }
-        Verdict::Void => Verdict::Void,
+        let verdict = ask_all(&mut self.rule, below);
+        if let Verdict::Open = verdict {
+            self.shifts.raise(below, windows);
+        }
+        Ok(verdict)
     }
 }

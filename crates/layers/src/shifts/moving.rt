@@ -28,8 +28,9 @@ impl Shifts {
         requires even { length below.old ≡ length windows.now }
         ensures { below.new ≡ map cut (shift_windows (shifts_of self.now) windows.now) }
     {
-        for (i, window) in windows.iter().enumerate() {
-            below[i] = lowered(*window, self.at(i));
+        // An index, not `zip`: after a `zip` over `iter_mut` nothing is known of what was written.
+        for (i, window) in below.iter_mut().enumerate() {
+            *window = lowered(windows[i], self.at(i));
         }
     }
 
@@ -39,8 +40,9 @@ impl Shifts {
         requires even { length windows.old ≡ length below.now }
         ensures { windows.new ≡ shift_windows (map neg_ℤ (shifts_of self.now)) below.now }
     {
-        for (i, window) in below.iter().enumerate() {
-            windows[i] = raised(*window, self.at(i));
+        // An index, not `zip`, as in `lower`.
+        for (i, window) in windows.iter_mut().enumerate() {
+            *window = raised(below[i], self.at(i));
         }
     }
 }

@@ -17,7 +17,7 @@ ask-requires g c =
 pub loop-lent-preserved : goal.loop-lent-preserved
 loop-lent-preserved g c =
     next_asked g.R.Rule.meaning c.args.self.now.rules.now c.loop-lent.lent-index c.lent-item.result c.loop-lent-test.true c.lent-item.is
-    _ c.args.windows.now c.loop-lent.windows c.ask.new.windows Open c.loop-lent.invariant c.in-Open.ensures.outcome
+    _ c.args.windows.now c.loop-lent.windows c.ask.new.windows Open c.loop-lent.invariant c.in_default.ensures.outcome
 
 pub returns-in-Void : goal.returns-in-Void
 returns-in-Void g c =

@@ -1,14 +1,56 @@
-use Rattle.std.proofs.Common.{sym, arith}
-use Rattle.std.proofs.lemmas.List.{length-take}
-use Rattle.rules.proofs.Failing.{answer_ok, taken}
+use Rattle.std.proofs.Common.{Ok, sym, ap, ◌∙◌}
+use Rattle.rules.specs.declared.verdict.Verdict.TheVariants.{Open, Void}
+use Rattle.rules.proofs.Failing.{answer_ok}
+use Rattle.rules.proofs.Trimming.{narrowed_at}
+use Rattle.layers.specs.Offset.{offset_meaning}
+use Rattle.layers.specs.Shifts.{shifts_of}
 use Rattle.layers.proofs.Owning.{taken_below}
+use Rattle.layers.proofs.Lowering.{nothing_left, something_left, raised_back, void_back}
 use Rattle.layers.proofs.offset.OffsetRule.narrow.Goals as goal
 
-pub narrow_shifted-requires : goal.narrow_shifted-requires
-narrow_shifted-requires g c =
-    let ok = answer_ok _ (sym c.in_ok-check_windows.ensures.value) in
-    let given = taken c.columns-columns.result c.args.windows.now ok in
+pub returns-then-is_err : goal.returns-then-is_err
+returns-then-is_err g c =
+    let m = g.R.Rule.meaning c.columns.new.self in
+    let ss = shifts_of c.args.self.now.shifts in
+    let vs = c.args.windows.now in
+    let ok = taken_below _ m c.columns.result vs c.columns.ensures.same c.columns.ensures.value (answer_ok _ (sym c.in_ok-check_windows.ensures.value)) in
+    let same = ap (λ n. offset_meaning n ss) c.columns.ensures.same in
     record {
-      taken = taken_below (g.R.Rule.meaning c.args.self.now.rule) (g.R.Rule.meaning c.columns-columns.new.self) c.columns-columns.result c.args.windows.now c.columns-columns.ensures.same c.columns-columns.ensures.value ok;
-      even = simp length-take (omega (arith, given.1));
+      same = same;
+      outcome = narrowed_at _ _ vs vs (Ok Void) same (nothing_left ss m vs c.lower.new.below ok c.lower.ensures c.check_windows-2.result c.check_windows-2.ensures.value c.if-is_err.ensures.value);
+    }
+
+pub ask_all-verdict-requires : goal.ask_all-verdict-requires
+ask_all-verdict-requires g c =
+    let m = g.R.Rule.meaning c.columns.new.self in
+    let vs = c.args.windows.now in
+    let ok = taken_below _ m c.columns.result vs c.columns.ensures.same c.columns.ensures.value (answer_ok _ (sym c.in_ok-check_windows.ensures.value)) in
+    something_left (shifts_of c.args.self.now.shifts) m vs c.lower.new.below ok c.lower.ensures c.check_windows-2.result c.check_windows-2.ensures.value c.if-is_err.ensures.value
+
+pub returns-in-Open : goal.returns-in-Open
+returns-in-Open g c =
+    let m = g.R.Rule.meaning c.columns.new.self in
+    let ss = shifts_of c.args.self.now.shifts in
+    let vs = c.args.windows.now in
+    let ok = taken_below _ m c.columns.result vs c.columns.ensures.same c.columns.ensures.value (answer_ok _ (sym c.in_ok-check_windows.ensures.value)) in
+    let same = ap (λ n. offset_meaning n ss) c.columns.ensures.same in
+    record {
+      same = ap (λ n. offset_meaning n ss) c.ask_all-verdict.ensures.same ∙ same;
+      outcome =
+          rw c.in-Open.is (narrowed_at _ _ vs c.raise.new.windows (Ok Open) same
+          (raised_back ss m vs c.lower.new.below ok c.lower.ensures c.check_windows-2.result c.check_windows-2.ensures.value c.ask_all-verdict.new.windows c.raise.new.windows c.in-Open.ensures.outcome c.raise.ensures));
+    }
+
+pub returns-in_default : goal.returns-in_default
+returns-in_default g c =
+    let m = g.R.Rule.meaning c.columns.new.self in
+    let ss = shifts_of c.args.self.now.shifts in
+    let vs = c.args.windows.now in
+    let ok = taken_below _ m c.columns.result vs c.columns.ensures.same c.columns.ensures.value (answer_ok _ (sym c.in_ok-check_windows.ensures.value)) in
+    let same = ap (λ n. offset_meaning n ss) c.columns.ensures.same in
+    record {
+      same = ap (λ n. offset_meaning n ss) c.ask_all-verdict.ensures.same ∙ same;
+      outcome =
+          rw c.in_default.is (narrowed_at _ _ vs vs (Ok Void) same
+          (void_back ss m vs c.lower.new.below ok c.lower.ensures c.check_windows-2.result c.check_windows-2.ensures.value c.ask_all-verdict.new.windows c.in_default.ensures.outcome));
     }

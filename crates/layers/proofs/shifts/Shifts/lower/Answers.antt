@@ -13,7 +13,7 @@ pub lowered-requires : goal.lowered-requires
 lowered-requires c =
     let fits : SFits w32 c.at.result = search rules in
     record {
-      lawful = lawful_at c.args.windows.now c.loop-i.i c.requires.lawful c.loop-i-test.true;
+      lawful = lawful_at c.args.windows.now c.loop-i.i c.requires.lawful (omega (arith, c.requires.even));
       near = ap is_shift (to_z-of_z w32 _ fits) ∙ c.at.ensures.near;
     }
 
@@ -31,4 +31,4 @@ returns c =
     let ss = shifts_of c.args.self.now in
     let ws = c.args.windows.now in
     written_all (to_below ss) ws c.loop-i.below (map cut (shift_windows ss ws)) c.loop-i.i
-    (omega arith) (length-map (shift_windows ss ws) cut ∙ length_windows ss ws) c.loop-i-test.false c.loop-i.invariant (all_below ss ws)
+    (omega arith) (length-map (shift_windows ss ws) cut ∙ length_windows ss ws) (omega (arith, c.requires.even)) c.loop-i.invariant (all_below ss ws)

@@ -12,7 +12,7 @@ pub raised-requires : goal.raised-requires
 raised-requires c =
     let fits : SFits w32 c.at.result = search rules in
     record {
-      lawful = lawful_at c.args.below.now c.loop-i.i c.requires.lawful c.loop-i-test.true;
+      lawful = lawful_at c.args.below.now c.loop-i.i c.requires.lawful (omega (arith, c.requires.even));
       near = ap is_shift (to_z-of_z w32 _ fits) ∙ c.at.ensures.near;
     }
 
@@ -30,4 +30,4 @@ returns c =
     let ss = shifts_of c.args.self.now in
     let ys = c.args.below.now in
     written_all (to_above ss) ys c.loop-i.windows (shift_windows (back ss) ys) c.loop-i.i
-    (omega arith) (length_windows (back ss) ys) c.loop-i-test.false c.loop-i.invariant (all_above ss ys)
+    (omega arith) (length_windows (back ss) ys) (omega (arith, c.requires.even)) c.loop-i.invariant (all_above ss ys)
