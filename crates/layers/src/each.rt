@@ -51,12 +51,10 @@ impl<'a, R: Rule + Copy> Rule for Each<'a, R> {
     ghost meaning = { λ s. joint (map R.Rule.meaning s.rules.now) };
 
     fn columns(&mut self) -> usize {
-        let mut most = 1;
-        for rule in self.rules {
+        self.rules.iter().fold(1, |most, rule| {
             let mut copy = *rule;
-            most = most.max(copy.columns());
-        }
-        most
+            most.max(copy.columns())
+        })
     }
 
     fn narrow(&mut self, windows: &mut [Window]) -> Result<Verdict, Fault> {

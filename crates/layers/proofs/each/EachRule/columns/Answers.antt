@@ -1,20 +1,17 @@
-use Rattle.std.proofs.Common.{◌≡◌, max, map, refl, arith, rules}
-use Rattle.layers.proofs.Listed.{next_most, most_done, some_columns}
+use Rattle.std.proofs.Common.{◌≡◌, ◌≤◌, List, [], ◌∷◌, ◌++◌, map, max, refl, ap, ◌∙◌, arith, rules}
+use Rattle.std.proofs.lemmas.Fn.{fold_over, fronts}
+use Rattle.std.proofs.lemmas.List.{map-append}
+use Rattle.std.proofs.lemmas.Iterator.{YieldsList-from_slice}
+use Rattle.layers.specs.Joining.{most_columns}
+use Rattle.layers.proofs.Listed.{SoFar, so_far_more}
 use Rattle.layers.proofs.each.EachRule.columns.Goals as goal
-
-pub loop-rule-init : goal.loop-rule-init
-loop-rule-init g c = (omega arith, omega arith, omega (arith, some_columns (map g.R.Rule.meaning c.args.self.now.rules.now)))
-
-pub loop-rule-preserved : goal.loop-rule-preserved
-loop-rule-preserved g c =
-    let most = next_most g.R.Rule.meaning c.args.self.now.rules.now c.loop-rule.rule-index c.rule-item.result c.loop-rule-test.true c.rule-item.is c.loop-rule.most _ c.loop-rule.invariant.2 in
-    let larger : c.max-most.result ≡ max c.loop-rule.most c.columns.result = search rules in
-    (omega arith, omega arith, omega arith)
 
 pub returns : goal.returns
 returns g c =
-    record {
-      same = refl;
-      value = most_done g.R.Rule.meaning c.args.self.now.rules.now c.loop-rule.rule-index c.loop-rule-test.false _ _ c.loop-rule.invariant.0 c.loop-rule.invariant.2;
-      few = (c.loop-rule.invariant.0, c.loop-rule.invariant.1);
-    }
+    let rs = c.args.self.now.rules.now in
+    let all = fold_over fronts (λ x. x.now) _ (SoFar g.R.Rule.meaning) _ (λ ys a x b f' so_far k.
+    let larger : b ≡ max a (g.R.Rule.meaning x.now).scope.width = search rules in
+    let some : 1 ≤ (g.R.Rule.meaning x.now).scope.width = search rules in
+    let few : (g.R.Rule.meaning x.now).scope.width ≤ 32 = search rules in
+    (so_far_more g.R.Rule.meaning ys x.now a b so_far larger some few, search rules)) c.iter.result rs 1 _ (YieldsList-from_slice {s = c.iter.result} rs c.iter.ensures.rest).runs (record { is = refl; some = omega arith; few = omega arith }) c.fold.ensures.ran in
+    record { same = refl; value = all.is; few = (all.some, all.few) }
