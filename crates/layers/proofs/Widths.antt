@@ -1,7 +1,7 @@
 -- Windows inside others: where they differ, the total width is smaller.
-use Rattle.std.proofs.Common.{◌≡◌, ◌*◌, ◌<◌, ◌≤◌, true, List, [], ◌∷◌, length, ℤ, pos, negsuc, ◌-ℤ◌, nat_abs, ◌≤ℤ◌, refl, ◌∙◌, subst, arith, w32, SFits, to_z, of_z, rules}
+use Rattle.std.proofs.Common.{◌≡◌, ◌*◌, ◌<◌, ◌≤◌, true, List, [], ◌∷◌, length, ℤ, pos, negsuc, ◌-ℤ◌, nat_abs, ◌≤ℤ◌, refl, subst, arith, rules}
 use Rattle.std.proofs.lemmas.Bool.{and_parts}
-use Rattle.std.proofs.lemmas.Int.{ints, to_z-of_z}
+use Rattle.std.proofs.lemmas.Int.{ints}
 use Rattle.std.proofs.lemmas.List.{ext_get_or, get_or_default}
 use Rattle.std.proofs.lemmas.List.Sums.{sum_by-cons, sum_by-le}
 use Rattle.rules.specs.declared.window.Window.{Window}
@@ -78,15 +78,7 @@ single_same ws vs h ok one =
     let inner = inside_at ws vs i h l in
     same_window (window_at ws i) (window_at vs i) inner ends (omega (arith, ints, width_is (window_at ws i) ends.order, width_is (window_at vs i) (omega (arith, ints))))
 
--- the width as the code has it, a difference of 32 bits
-module _ (w : Window) (a b : ℤ) (e : Ends w) (p : a ≡ w.last) (q : b ≡ w.first) where
-  pub difference_fits : SFits w32 (a -ℤ b)
-  difference_fits = omega (arith, ints)
-
-  pub difference_is : to_z w32 (of_z w32 (a -ℤ b)) ≡ w.last -ℤ w.first
-  difference_is = to_z-of_z w32 _ difference_fits ∙ λ i. p i -ℤ q i
-
-pub width_most : (w : Window) → Ends w → window_width w ≤ 60000000
+width_most : (w : Window) → Ends w → window_width w ≤ 60000000
 width_most w e = omega (arith, ints, width_is w e.order)
 
 -- at most 32 windows are not wider than a number of 64 bits

@@ -4,7 +4,7 @@ ghost use Rattle.std.specs.Prelude.{◌≡◌, [], ◌∷◌};
 ghost use Rattle.layers.specs.Both.{both_meaning};
 
 use crate::asking::ask;
-use crate::joining::{InTurn, narrow_together};
+use crate::joining::InTurn;
 use rules::{Fault, Rule, Verdict, Window};
 
 /// Allows what both of its rules allow. The one with fewer columns binds the leading ones.
@@ -46,6 +46,6 @@ impl<A: Rule, B: Rule> Rule for Both<A, B> {
 
     fn narrow(&mut self, windows: &mut [Window]) -> Result<Verdict, Fault> {
         let columns = self.columns();
-        narrow_together(self, columns, windows)
+        self.narrow_together(columns, windows)
     }
 }

@@ -5,7 +5,7 @@ ghost use Rattle.layers.specs.Joining.{joint};
 ghost use Rattle.layers.specs.Each.{each_refusal};
 
 use crate::asking::ask;
-use crate::joining::{InTurn, narrow_together};
+use crate::joining::InTurn;
 use rules::{Fault, Rule, Verdict, Window};
 
 /// The largest number of rules in a list.
@@ -59,6 +59,6 @@ impl<'a, R: Rule + Copy> Rule for Each<'a, R> {
 
     fn narrow(&mut self, windows: &mut [Window]) -> Result<Verdict, Fault> {
         let columns = self.columns();
-        narrow_together(self, columns, windows)
+        self.narrow_together(columns, windows)
     }
 }

@@ -19,45 +19,45 @@ pub(crate) trait InTurn {
         requires room { most_columns (meanings self.old) ≤ length windows.old }
         ensures same { meanings self.new ≡ meanings self.old }
         ensures outcome { Turned (meanings self.old) windows.old result windows.new };
-}
 
-/// Cuts the windows down by several rules.
-pub(crate) fn narrow_together<T: InTurn>(
-    rules: &mut T,
-    columns: usize,
-    windows: &mut [Window],
-) -> Result<Verdict, Fault>
-    requires width { columns ≡ most_columns (T.InTurn.meanings rules.old) }
-    requires few { columns ≤ 32 }
-    ensures same { T.InTurn.meanings rules.new ≡ T.InTurn.meanings rules.old }
-    ensures outcome { Narrowed (joint (T.InTurn.meanings rules.old)) windows.old result windows.new }
-{
-    check_windows(columns, windows)?;
-    let mut room = [Window { first: 0, last: 0 }; MOST_COLUMNS];
-    let copy = &mut room[..columns];
-    copy.copy_from_slice(windows);
-    let verdict = settle(rules, copy);
-    if let Verdict::Open = verdict {
-        windows.copy_from_slice(copy);
+    /// Asks the rules, turn after turn.
+    final fn settle(&mut self, windows: &mut [Window]) -> Verdict
+        requires taken { window_refusal (most_columns (meanings self.old)) windows.old ≡ None }
+        requires few { length windows.old ≤ 32 }
+        ensures same { meanings self.new ≡ meanings self.old }
+        ensures outcome { FixedPoint (meanings self.old) windows.old result windows.new }
+    {
+        'turns: loop {
+            let before = total_width(windows);
+            if let Verdict::Void = self.turn(windows) {
+                return Verdict::Void;
+            }
+            if total_width(windows) == before {
+                return Verdict::Open;
+            }
+        }
     }
-    Ok(verdict)
-}
 
-/// Asks the rules, turn after turn.
-fn settle<T: InTurn>(rules: &mut T, windows: &mut [Window]) -> Verdict
-    requires taken { window_refusal (most_columns (T.InTurn.meanings rules.old)) windows.old ≡ None }
-    requires few { length windows.old ≤ 32 }
-    ensures same { T.InTurn.meanings rules.new ≡ T.InTurn.meanings rules.old }
-    ensures outcome { FixedPoint (T.InTurn.meanings rules.old) windows.old result windows.new }
-{
-    'turns: loop {
-        let before = total_width(windows);
-        if let Verdict::Void = rules.turn(windows) {
-            return Verdict::Void;
+    /// Cuts the windows down by the rules. It asks them on a copy, so that `Void` leaves the windows as they were.
+    final fn narrow_together(
+        &mut self,
+        columns: usize,
+        windows: &mut [Window],
+    ) -> Result<Verdict, Fault>
+        requires width { columns ≡ most_columns (meanings self.old) }
+        requires few { columns ≤ 32 }
+        ensures same { meanings self.new ≡ meanings self.old }
+        ensures outcome { Narrowed (joint (meanings self.old)) windows.old result windows.new }
+    {
+        check_windows(columns, windows)?;
+        let mut room = [Window { first: 0, last: 0 }; MOST_COLUMNS];
+        let copy = &mut room[..columns];
+        copy.copy_from_slice(windows);
+        let verdict = self.settle(copy);
+        if let Verdict::Open = verdict {
+            windows.copy_from_slice(copy);
         }
-        if total_width(windows) == before {
-            return Verdict::Open;
-        }
+        Ok(verdict)
     }
 }
 

@@ -6,7 +6,7 @@ use Rattle.rules.proofs.Failing.{answer_ok, taken}
 use Rattle.rules.proofs.Trimming.{narrowed_at}
 use Rattle.layers.specs.Either.{either_meaning}
 use Rattle.layers.proofs.Spanning.{first_void, second_void, both_open, copy_asked, either_same}
-use Rattle.layers.proofs.Owning.{taken_below}
+use Rattle.layers.proofs.Owning.{passed_below}
 use Rattle.layers.proofs.either.EitherRule.narrow.Goals as goal
 
 pub ask-one-requires : goal.ask-one-requires
@@ -25,7 +25,7 @@ returns-in-Void g c =
     let a = g.A.Rule.meaning c.columns.new.self.one in
     let b = g.B.Rule.meaning c.columns.new.self.other in
     let vs = c.args.windows.now in
-    let ok = taken_below _ (either_meaning a b) c.columns.result vs c.columns.ensures.same c.columns.ensures.value (answer_ok _ (sym c.in_ok-check_windows.ensures.value)) in
+    let ok = passed_below _ (either_meaning a b) c.columns.result vs c.columns.ensures.same c.columns.ensures.value c.in_ok-check_windows.ensures.value in
     let one = copy_asked a vs c.copy_from_slice.new.self c.ask-one.new.windows Void c.copy_from_slice.ensures.after (rw c.in-Void.is at c.ask-one.ensures.outcome) in
     record {
       same = either_same _ a _ b c.ask-one.ensures.same c.ask-other.ensures.same ∙ c.columns.ensures.same;
@@ -37,7 +37,7 @@ returns-in-Void-other g c =
     let a = g.A.Rule.meaning c.columns.new.self.one in
     let b = g.B.Rule.meaning c.columns.new.self.other in
     let vs = c.args.windows.now in
-    let ok = taken_below _ (either_meaning a b) c.columns.result vs c.columns.ensures.same c.columns.ensures.value (answer_ok _ (sym c.in_ok-check_windows.ensures.value)) in
+    let ok = passed_below _ (either_meaning a b) c.columns.result vs c.columns.ensures.same c.columns.ensures.value c.in_ok-check_windows.ensures.value in
     let one = copy_asked a vs c.copy_from_slice.new.self c.ask-one.new.windows Open c.copy_from_slice.ensures.after (rw c.in_default.is at c.ask-one.ensures.outcome) in
     record {
       same = either_same _ a _ b c.ask-one.ensures.same c.ask-other.ensures.same ∙ c.columns.ensures.same;
@@ -52,7 +52,7 @@ returns-in-Open g c =
     let a = g.A.Rule.meaning c.columns.new.self.one in
     let b = g.B.Rule.meaning c.columns.new.self.other in
     let vs = c.args.windows.now in
-    let ok = taken_below _ (either_meaning a b) c.columns.result vs c.columns.ensures.same c.columns.ensures.value (answer_ok _ (sym c.in_ok-check_windows.ensures.value)) in
+    let ok = passed_below _ (either_meaning a b) c.columns.result vs c.columns.ensures.same c.columns.ensures.value c.in_ok-check_windows.ensures.value in
     let one = copy_asked a vs c.copy_from_slice.new.self c.ask-one.new.windows Open c.copy_from_slice.ensures.after (rw c.in_default.is at c.ask-one.ensures.outcome) in
     record {
       same = either_same _ a _ b c.ask-one.ensures.same c.ask-other.ensures.same ∙ c.columns.ensures.same;

@@ -1,10 +1,9 @@
-use Rattle.std.proofs.Common.{Ok, sym, ap, ◌∙◌}
+use Rattle.std.proofs.Common.{Ok, ap, ◌∙◌}
 use Rattle.rules.specs.declared.verdict.Verdict.TheVariants.{Open, Void}
-use Rattle.rules.proofs.Failing.{answer_ok}
 use Rattle.rules.proofs.Trimming.{narrowed_at}
 use Rattle.layers.specs.Offset.{offset_meaning}
 use Rattle.layers.specs.Shifts.{shifts_of}
-use Rattle.layers.proofs.Owning.{taken_below}
+use Rattle.layers.proofs.Owning.{passed_below}
 use Rattle.layers.proofs.Lowering.{nothing_left, something_left, raised_back, void_back}
 use Rattle.layers.proofs.offset.OffsetRule.narrow.Goals as goal
 
@@ -13,7 +12,7 @@ returns-then-is_err g c =
     let m = g.R.Rule.meaning c.columns.new.self in
     let ss = shifts_of c.args.self.now.shifts in
     let vs = c.args.windows.now in
-    let ok = taken_below _ m c.columns.result vs c.columns.ensures.same c.columns.ensures.value (answer_ok _ (sym c.in_ok-check_windows.ensures.value)) in
+    let ok = passed_below _ m c.columns.result vs c.columns.ensures.same c.columns.ensures.value c.in_ok-check_windows.ensures.value in
     let same = ap (λ n. offset_meaning n ss) c.columns.ensures.same in
     record {
       same = same;
@@ -24,7 +23,7 @@ pub ask_all-verdict-requires : goal.ask_all-verdict-requires
 ask_all-verdict-requires g c =
     let m = g.R.Rule.meaning c.columns.new.self in
     let vs = c.args.windows.now in
-    let ok = taken_below _ m c.columns.result vs c.columns.ensures.same c.columns.ensures.value (answer_ok _ (sym c.in_ok-check_windows.ensures.value)) in
+    let ok = passed_below _ m c.columns.result vs c.columns.ensures.same c.columns.ensures.value c.in_ok-check_windows.ensures.value in
     something_left (shifts_of c.args.self.now.shifts) m vs c.lower.new.below ok c.lower.ensures c.check_windows-2.result c.check_windows-2.ensures.value c.if-is_err.ensures.value
 
 pub returns-in-Open : goal.returns-in-Open
@@ -32,7 +31,7 @@ returns-in-Open g c =
     let m = g.R.Rule.meaning c.columns.new.self in
     let ss = shifts_of c.args.self.now.shifts in
     let vs = c.args.windows.now in
-    let ok = taken_below _ m c.columns.result vs c.columns.ensures.same c.columns.ensures.value (answer_ok _ (sym c.in_ok-check_windows.ensures.value)) in
+    let ok = passed_below _ m c.columns.result vs c.columns.ensures.same c.columns.ensures.value c.in_ok-check_windows.ensures.value in
     let same = ap (λ n. offset_meaning n ss) c.columns.ensures.same in
     record {
       same = ap (λ n. offset_meaning n ss) c.ask_all-verdict.ensures.same ∙ same;
@@ -46,7 +45,7 @@ returns-in_default g c =
     let m = g.R.Rule.meaning c.columns.new.self in
     let ss = shifts_of c.args.self.now.shifts in
     let vs = c.args.windows.now in
-    let ok = taken_below _ m c.columns.result vs c.columns.ensures.same c.columns.ensures.value (answer_ok _ (sym c.in_ok-check_windows.ensures.value)) in
+    let ok = passed_below _ m c.columns.result vs c.columns.ensures.same c.columns.ensures.value c.in_ok-check_windows.ensures.value in
     let same = ap (λ n. offset_meaning n ss) c.columns.ensures.same in
     record {
       same = ap (λ n. offset_meaning n ss) c.ask_all-verdict.ensures.same ∙ same;

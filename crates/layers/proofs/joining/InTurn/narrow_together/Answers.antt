@@ -2,7 +2,7 @@ use Rattle.std.proofs.Common.{length, sym, ap, ◌∙◌, arith}
 use Rattle.rules.specs.Refusals.{window_refusal}
 use Rattle.rules.proofs.Failing.{answer_ok, taken}
 use Rattle.layers.proofs.Turns.{written_back, left_alone}
-use Rattle.layers.proofs.joining.narrow_together.Goals as goal
+use Rattle.layers.proofs.joining.InTurn.narrow_together.Goals as goal
 
 pub settle-verdict-requires : goal.settle-verdict-requires
 settle-verdict-requires g c =
@@ -25,5 +25,5 @@ returns-in_default g c =
     let ok = ap (λ k. window_refusal k c.args.windows.now) (sym c.requires.width) ∙ answer_ok _ (sym c.in_ok-check_windows.ensures.value) in
     record {
       same = c.settle-verdict.ensures.same;
-      outcome = rw c.in_default.is (left_alone (g.T.InTurn.meanings c.args.rules.now) c.args.windows.now c.copy_from_slice.new.self c.copy_from_slice.ensures.after c.settle-verdict.new.windows ok c.in_default.ensures.outcome);
+      outcome = rw c.in_default.is (left_alone (g.Self.InTurn.meanings c.args.self.now) c.args.windows.now c.copy_from_slice.new.self c.copy_from_slice.ensures.after c.settle-verdict.new.windows ok c.in_default.ensures.outcome);
     }
