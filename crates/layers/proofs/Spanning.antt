@@ -7,13 +7,13 @@ use Rattle.std.proofs.lemmas.Bool.{and_parts, both_ways, cases_cond, or_cases, o
 use Rattle.rules.specs.declared.window.Window.{Window}
 use Rattle.rules.specs.declared.verdict.Verdict.{Verdict}
 use Rattle.rules.specs.declared.verdict.Verdict.TheVariants.{Open, Void}
-use Rattle.rules.specs.Plans.{all_lawful, window_at, lies, inside, firsts, Supported, Trimmed}
+use Rattle.rules.specs.Plans.{all_lawful, window_at, lies, inside, firsts, Supported, Trimmed, spanned}
 use Rattle.rules.specs.Refusals.{window_refusal}
 use Rattle.rules.specs.Meaning.{Scope, Meaning, Opened, Voided, Narrowed}
 use Rattle.rules.proofs.Windows.{inside_same, inside_at, inside-length, inside_from, lies-inside, lawful_at, lawful_ends, lawful_from}
 use Rattle.rules.proofs.Failing.{taken}
 use Rattle.layers.specs.Leading.{on_leading}
-use Rattle.layers.specs.Either.{spanned, either_meaning}
+use Rattle.layers.specs.Either.{either_meaning}
 use Rattle.layers.specs.Owning.{own_rule}
 use Rattle.layers.proofs.Owning.{own_settles}
 

@@ -1,7 +1,5 @@
 -- Two rules of which one is enough.
 use Rattle.std.specs.Prelude.{max, false, ◌&&◌, ◌||◌}
-use Rattle.std.specs.Int.{int_max, int_min}
-use Rattle.rules.specs.declared.window.Window.{Window}
 use Rattle.rules.specs.Meaning.{Meaning}
 use Rattle.layers.specs.Leading.{leading}
 use Rattle.layers.specs.Owning.{own_rule}
@@ -13,7 +11,3 @@ either_meaning a b =
     (record { width = max a.scope.width b.scope.width; allows = λ x. leading a.scope.width a.scope.allows x || leading b.scope.width b.scope.allows x })
     (a.tight && b.tight)
     false
-
--- the least window that holds both
-abbrev pub spanned : Window → Window → Window
-spanned v w = record { first = int_min v.first w.first; last = int_max v.last w.last }

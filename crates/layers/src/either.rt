@@ -1,8 +1,8 @@
 //! Two rules of which one is enough.
 
 ghost use Rattle.std.specs.Prelude.{◌≡◌, ℕ, ◌<◌, length};
-ghost use Rattle.rules.specs.Plans.{window_at};
-ghost use Rattle.layers.specs.Either.{either_meaning, spanned};
+ghost use Rattle.rules.specs.Plans.{window_at, spanned};
+ghost use Rattle.layers.specs.Either.{either_meaning};
 
 use crate::asking::ask;
 use rules::window::MOST_COLUMNS;
@@ -60,16 +60,6 @@ fn span_all(list: &[Window], windows: &mut [Window])
 {
     // An index, not `zip`: after a `zip` over `iter_mut` nothing is known of what was written.
     for (i, window) in windows.iter_mut().enumerate() {
-        *window = span(list[i], *window);
-    }
-}
-
-/// The least window that holds both.
-fn span(v: Window, w: Window) -> Window
-    ensures { result ≡ spanned v w }
-{
-    Window {
-        first: v.first.min(w.first),
-        last: v.last.max(w.last),
+        *window = list[i].span(window);
     }
 }

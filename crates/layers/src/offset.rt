@@ -48,7 +48,7 @@ impl<R: Rule> Offset<R> {
         ensures after { MatchResult result (λ _. offset_meaning (R.Rule.meaning self.new.rule) (shifts_of self.new.shifts) ≡ offset_meaning (R.Rule.meaning self.old.rule) shifts.now) (λ _. self.new.shifts ≡ self.old.shifts) }
     {
         check_shifts(self.rule.columns(), shifts)?;
-        self.shifts = Shifts::of(shifts);
+        self.shifts = Shifts::of(shifts)?;
         Ok(())
     }
 }

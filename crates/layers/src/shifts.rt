@@ -1,16 +1,18 @@
 //! One shift for each of the leading columns.
 
-ghost use Rattle.std.specs.Prelude.{◌≡◌, ◌≤◌, true, take};
+ghost use Rattle.std.specs.Prelude.{◌≡◌, true};
+ghost use Rattle.rules.specs.ShortLists.{listed};
 ghost use Rattle.layers.specs.Offset.{all_shifts};
+
+use rules::ShortList;
+use rules::window::MOST_COLUMNS;
 
 pub(crate) mod moving;
 pub(crate) mod setting;
 
-/// The shifts of the first `count` columns. The columns after them are not shifted.
+/// The shifts of the leading columns. The columns after them are not shifted.
 #[derive(Clone, Copy)]
 pub(crate) struct Shifts {
-    count: usize,
-    values: [i32; 32],
-    ghost few: { count ≤ 32 },
-    ghost near: { all_shifts (take count values) ≡ true },
+    leading: ShortList<i32, MOST_COLUMNS>,
+    ghost near: { all_shifts (listed leading) ≡ true },
 }

@@ -15,11 +15,7 @@ impl Shifts {
         ensures value { result ≡ value_at (shifts_of self.now) column }
         ensures near { is_shift result ≡ true }
     {
-        if column < self.count {
-            self.values[column]
-        } else {
-            0
-        }
+        self.leading.as_slice().get(column).copied().unwrap_or(0)
     }
 
     /// Writes what the rule below a layer is asked on: the windows shifted, and cut to the values.

@@ -1,25 +1,21 @@
 //! Setting shifts.
 
-ghost use Rattle.std.specs.Prelude.{◌≡◌, ◌≤◌, true, [], length, take};
-ghost use Rattle.rules.specs.Refusals.{answer};
+ghost use Rattle.std.specs.Prelude.{◌≡◌, ◌<◌, true, [], length, MatchResult};
+ghost use Rattle.rules.specs.Refusals.{first_failing, answer};
 ghost use Rattle.layers.specs.Offset.{is_shift, all_shifts, offset_refusal, OffsetJudged};
 ghost use Rattle.layers.specs.Shifts.{shifts_of};
 
 use crate::offset::MOST_SHIFT;
 use crate::shifts::Shifts;
-use rules::window::MOST_COLUMNS;
-use rules::{Fault, Test, first_failing};
+use rules::{Fault, ShortList};
 
-/// A shift in its range.
-#[derive(Clone, Copy)]
-struct InRange;
-
-impl Test<i32> for InRange {
-    ghost accepts = { λ _ s. is_shift s };
-
-    fn passes(&self, item: i32) -> bool {
-        -MOST_SHIFT <= item && item <= MOST_SHIFT
-    }
+/// The index of the first shift that is out of range.
+fn first_out_of_range(shifts: &[i32]) -> Option<usize>
+    ensures { result ≡ first_failing is_shift shifts.now }
+{
+    shifts
+        .iter()
+        .position(|shift| !(-MOST_SHIFT..=MOST_SHIFT).contains(shift))
 }
 
 /// Refuses more shifts than columns (9), then the first shift out of range (11).
@@ -30,7 +26,7 @@ pub(crate) fn check_shifts(columns: usize, shifts: &[i32]) -> Result<(), Fault>
     if shifts.len() > columns {
         return Err(Fault::ListLength);
     }
-    if let Some(at) = first_failing(&InRange, shifts) {
+    if let Some(at) = first_out_of_range(shifts) {
         return Err(Fault::OutOfRange(at));
     }
     Ok(())
@@ -42,31 +38,16 @@ impl Shifts {
         ensures { shifts_of result ≡ [] }
     {
         Shifts {
-            count: 0,
-            values: [0; MOST_COLUMNS],
+            leading: ShortList::empty(0),
         }
     }
 
-    /// The shifts of a list, for the leading columns.
-    pub(crate) fn of(shifts: &[i32]) -> Shifts
-        requires few { length shifts.now ≤ 32 }
-        requires near { all_shifts shifts.now ≡ true }
-        ensures { shifts_of result ≡ shifts.now }
+    /// The shifts of a list, for the leading columns. More than 32 are refused (9).
+    pub(crate) fn of(shifts: &[i32]) -> Result<Shifts, Fault>
+        requires { all_shifts shifts.now ≡ true }
+        ensures { MatchResult result (λ s. shifts_of s ≡ shifts.now) (λ _. 32 < length shifts.now) }
     {
-        let values = stored(shifts);
-        Shifts {
-            count: shifts.len(),
-            values,
-        }
+        let leading = ShortList::of(shifts, 0)?;
+        Ok(Shifts { leading })
     }
-}
-
-/// The shifts, and zeros after them.
-fn stored(shifts: &[i32]) -> [i32; 32]
-    requires { length shifts.now ≤ 32 }
-    ensures { take (length shifts.now) result ≡ shifts.now }
-{
-    let mut values = [0; MOST_COLUMNS];
-    values[0..shifts.len()].copy_from_slice(shifts);
-    values
 }

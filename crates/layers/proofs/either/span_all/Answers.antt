@@ -1,6 +1,5 @@
 use Rattle.std.proofs.Common.{ap, ◌∙◌, arith}
-use Rattle.rules.specs.Plans.{window_at}
-use Rattle.layers.specs.Either.{spanned}
+use Rattle.rules.specs.Plans.{window_at, spanned}
 use Rattle.layers.proofs.Writing.{written_more, unwritten_more}
 use Rattle.layers.proofs.either.span_all.Goals as goal
 

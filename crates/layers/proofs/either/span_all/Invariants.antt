@@ -1,5 +1,4 @@
-use Rattle.rules.specs.Plans.{window_at}
-use Rattle.layers.specs.Either.{spanned}
+use Rattle.rules.specs.Plans.{window_at, spanned}
 use Rattle.layers.proofs.Writing.{Written, Unwritten}
 use Rattle.layers.proofs.either.span_all.Given as goal
 
