@@ -1,41 +1,64 @@
 -- A sum whose summands never fall.
-use Rattle.std.proofs.Common.{◌≡◌, ℕ, zero, suc, ◌<◌, ◌≤◌, Bool, true, List, [], ◌∷◌, length, ℤ, ◌≤ℤ◌, refl, ap, ⊎_elim, arith}
+use Rattle.std.proofs.Common.{◌≡◌, ℕ, zero, suc, ◌<◌, ◌≤◌, Bool, true, eqb, List, [], ◌∷◌, length, ℤ, ◌≤ℤ◌, Some, None, Option, sym, refl, ap, ◌∙◌, subst, ⊎_elim, arith}
 use lib.Signed.{le_z}
 use Rattle.std.proofs.lemmas.Int.{ints}
-use Rattle.std.proofs.lemmas.Bool.{cases_eq, and_parts, and_from}
-use Rattle.std.proofs.lemmas.Bool.Decides.{nat_tests}
+use Rattle.std.proofs.lemmas.Bool.{cases_eq, and_parts, and_from, or_cases, or_left, or_right, eqb-true, eq-eqb, leb-true, le-leb, both_ways}
 use Rattle.rules.specs.Plans.{value_at}
 use Rattle.differences.specs.Tables.{Closed}
 use Rattle.totals.specs.Cuts.{column_at, Columns}
 use Rattle.totals.specs.Sums.{sums, Distinct}
-use Rattle.totals.specs.Orders.{place_of, not_after, chain_distance, Placed}
+use Rattle.totals.specs.Orders.{place_of, no_later, not_after, chain_distance, Placed}
 use Rattle.totals.specs.Rising.{rising_from, rising, rising_sum}
 use Rattle.totals.proofs.Supporting.{Meets}
 use Rattle.totals.proofs.Adds.{sums-total, total-sums}
 use Rattle.totals.proofs.Ordered.{Preorder, InOrder, order_way, order_closed, order_meets}
 use Rattle.totals.proofs.Plain.{total_apart}
+use Rattle.totals.proofs.Placing.{some_same}
 
 -- two columns that have places, and that of j is not after that of i
-record Later (places : List ℕ) (i j : ℕ) : Type 0 where
-  here : i < 32
-  there : j < 32
-  after : place_of places j ≤ place_of places i
-  some : place_of places i < 31
+record Later (places : List (Option ℕ)) (i j : ℕ) : Type 0 where
+  at : ℕ
+  before : ℕ
+  here : place_of places i ≡ Some at
+  there : place_of places j ≡ Some before
+  after : before ≤ at
 
-later_than : (places : List ℕ) (i j : ℕ) → not_after places i j ≡ true → (i ≡ j → ⊥) → Later places i j
-later_than places i j h ne = record { here = grind (arith, nat_tests); there = grind (arith, nat_tests); after = grind (arith, nat_tests); some = grind (arith, nat_tests) }
+later_places : (places : List (Option ℕ)) (i j : ℕ) (p q : Option ℕ) → place_of places i ≡ p → place_of places j ≡ q → no_later q p ≡ true → Later places i j
+later_places places i j p None e f h = absurd (both_ways _ refl h)
+later_places places i j None (Some b) e f h = absurd (both_ways _ refl h)
+later_places places i j (Some a) (Some b) e f h = record { at = a; before = b; here = e; there = f; after = leb-true b a h }
 
-is_later : (places : List ℕ) (i j : ℕ) → Later places i j → not_after places i j ≡ true
-is_later places i j l = let a = l.here in let b = l.there in let c = l.after in let d = l.some in grind (arith, nat_tests)
+later_than : (places : List (Option ℕ)) (i j : ℕ) → not_after places i j ≡ true → (i ≡ j → ⊥) → Later places i j
+later_than places i j h ne =
+    ⊎_elim
+    (λ e. absurd (ne (eqb-true i j e)))
+    (λ l. later_places places i j (place_of places i) (place_of places j) refl refl l)
+    (or_cases (eqb i j) (no_later (place_of places j) (place_of places i)) h)
 
-chain_order : (places : List ℕ) → Preorder (not_after places)
+is_later : (places : List (Option ℕ)) (i j a b : ℕ) → place_of places i ≡ Some a → place_of places j ≡ Some b → b ≤ a → not_after places i j ≡ true
+is_later places i j a b e f l =
+    or_right (eqb i j) (no_later (place_of places j) (place_of places i))
+    ((λ n. no_later (f n) (e n)) ∙ le-leb b a l)
+
+chain_order : (places : List (Option ℕ)) → Preorder (not_after places)
 chain_order places =
     record {
-      self = λ i. grind (arith, nat_tests);
-      through = λ i m j h g. grind (arith, nat_tests);
+      self = λ i. or_left (eqb i i) (no_later (place_of places i) (place_of places i)) (eq-eqb i i refl);
+      through = λ i m j h g.
+          ⊎_elim
+          (λ e. subst (λ (n : ℕ). not_after places n j ≡ true) (sym e) g)
+          (λ ne. ⊎_elim
+          (λ e. subst (λ (n : ℕ). not_after places i n ≡ true) e h)
+          (λ no.
+          let p = later_than places i m h ne in
+          let q = later_than places m j g no in
+          let same : p.before ≡ q.at = some_same (sym p.there ∙ q.here) in
+          is_later places i j p.at q.before p.here q.there (omega (arith, p.after, q.after)))
+          (cases_eq m j))
+          (cases_eq i m);
     }
 
-pub chain_closed : (places : List ℕ) (k : ℕ) → Closed k (chain_distance places)
+pub chain_closed : (places : List (Option ℕ)) (k : ℕ) → Closed k (chain_distance places)
 chain_closed places = order_closed (not_after places) (chain_order places)
 
 -- from v on the columns never fall: none is below v, and none is below one that stands before it
@@ -76,30 +99,27 @@ upward_rising [] x up = refl
 upward_rising (s ∷ ss) x up =
     upward_from (value_at x s) ss x (λ b l. up 0 (suc b) (omega arith) (omega arith)) (λ a b ab l. up (suc a) (suc b) (omega arith) (omega arith))
 
-module _ (k t : ℕ) (ss places : List ℕ) (few : k ≤ 32) (short : length ss ≤ 31) (ht : t < k) (there : Columns k ss) (distinct : Distinct (t ∷ ss)) (P : Placed ss places) where
+module _ (k t : ℕ) (ss : List ℕ) (places : List (Option ℕ)) (ht : t < k) (there : Columns k ss) (distinct : Distinct (t ∷ ss)) (P : Placed ss places) where
   abbrev R : ℕ → ℕ → Bool
   R = not_after places
 
-  summand_below : (a : ℕ) → a < length ss → column_at ss a < 32
-  summand_below a l = let h = there.there a l in omega arith
-
   -- the total has no place
-  total_unplaced : place_of places t < 31 → ⊥
-  total_unplaced h = total_apart t ss distinct (place_of places t) (P.within t (omega arith) h) (P.stands t (omega arith) h)
+  total_unplaced : (a : ℕ) → place_of places t ≡ Some a → ⊥
+  total_unplaced a h = total_apart t ss distinct a (P.within t a h) (P.stands t a h)
 
   -- a summand that stands after another is later
   summand_later : (a b : ℕ) → a ≤ b → b < length ss → R (column_at ss b) (column_at ss a) ≡ true
-  summand_later a b ab l =
-      let p = P.own a (omega arith) in
-      let q = P.own b l in
-      is_later places (column_at ss b) (column_at ss a)
-      (record { here = summand_below b l; there = summand_below a (omega arith); after = omega arith; some = omega arith })
+  summand_later a b ab l = is_later places (column_at ss b) (column_at ss a) b a (P.own b l) (P.own a (omega arith)) ab
 
   not_later : (a b : ℕ) → a < length ss → b < length ss → R (column_at ss b) (column_at ss a) ≡ true → a ≤ b
   not_later a b la lb h =
       ⊎_elim
-      (λ e. let p = P.own a la in let q = P.own b lb in let s = ap (place_of places) e in omega arith)
-      (λ ne. let l = later_than places (column_at ss b) (column_at ss a) h ne in let p = P.own a la in let q = P.own b lb in omega (arith, l.after))
+      (λ e. let s : b ≡ a = some_same (sym (P.own b lb) ∙ ap (place_of places) e ∙ P.own a la) in omega arith)
+      (λ ne.
+      let l = later_than places (column_at ss b) (column_at ss a) h ne in
+      let p : a ≡ l.before = some_same (sym (P.own a la) ∙ l.there) in
+      let q : b ≡ l.at = some_same (sym (P.own b lb) ∙ l.here) in
+      omega (arith, l.after))
       (cases_eq (column_at ss b) (column_at ss a))
 
   in_order : (x : List ℤ) → Upward ss x → InOrder k R (value_at x)
@@ -110,11 +130,9 @@ module _ (k t : ℕ) (ss places : List ℕ) (few : k ≤ 32) (short : length ss 
             (λ e. let g = ap (value_at x) e in omega (arith, ints))
             (λ ne.
             let l = later_than places i j h ne in
-            let si : place_of places i < 31 = l.some in
-            let sj : place_of places j < 31 = omega (arith, l.after) in
-            let u = up (place_of places j) (place_of places i) l.after (P.within i l.here si) in
-            let p = ap (value_at x) (P.stands i l.here si) in
-            let q = ap (value_at x) (P.stands j l.there sj) in
+            let u = up l.before l.at l.after (P.within i l.at l.here) in
+            let p = ap (value_at x) (P.stands i l.at l.here) in
+            let q = ap (value_at x) (P.stands j l.before l.there) in
             omega (arith, ints))
             (cases_eq i j);
       }
@@ -123,10 +141,10 @@ module _ (k t : ℕ) (ss places : List ℕ) (few : k ≤ 32) (short : length ss 
   upward x o a b ab l = o.below (column_at ss b) (column_at ss a) (there.there b l) (there.there a (omega arith)) (summand_later a b ab l)
 
   from_total : (j : ℕ) → R t j ≡ true → t ≡ j
-  from_total j h = ⊎_elim (λ e. e) (λ ne. absurd (total_unplaced (later_than places t j h ne).some)) (cases_eq t j)
+  from_total j h = ⊎_elim (λ e. e) (λ ne. let l = later_than places t j h ne in absurd (total_unplaced l.at l.here)) (cases_eq t j)
 
   to_total : (i : ℕ) → R i t ≡ true → i ≡ t
-  to_total i h = ⊎_elim (λ e. e) (λ ne. let l = later_than places i t h ne in absurd (total_unplaced (omega (arith, l.after, l.some)))) (cases_eq i t)
+  to_total i h = ⊎_elim (λ e. e) (λ ne. let l = later_than places i t h ne in absurd (total_unplaced l.before l.there)) (cases_eq i t)
 
   pub rising_meets : Meets k (chain_distance places) (order_way (not_after places)) t ss (rising_sum t ss)
   rising_meets =

@@ -1,109 +1,124 @@
 -- The numbers that the search for an end works on: the total it reaches is that of plans with one column fixed.
-use Rattle.std.proofs.Common.{◌≡◌, ℕ, zero, suc, ◌<◌, ◌≤◌, true, List, length, ℤ, pos, ◌+ℤ◌, ◌-ℤ◌, ◌≤ℤ◌, sym, refl, ap, subst, arith, w32, w64, to_z, of_z}
+use Rattle.std.proofs.Common.{◌≡◌, ℕ, zero, suc, ◌<◌, ◌≤◌, true, List, length, take, ℤ, pos, ◌+ℤ◌, ◌-ℤ◌, ◌≤ℤ◌, sym, refl, ap, ◌∙◌, subst, arith, w32, w64, to_z, of_z}
 use Rattle.std.specs.Int.{int_max, int_min}
 use Rattle.std.proofs.lemmas.Int.{ints, clamps}
+use Rattle.std.proofs.lemmas.List.{get_or-take, length-take-le}
 use Rattle.rules.specs.declared.window.Window.{Window}
 use Rattle.rules.specs.Plans.{all_lawful, window_at}
 use Rattle.rules.proofs.Windows.{Ends, lawful_at, lawful_ends}
 use Rattle.differences.specs.Tables.{Closed}
 use Rattle.differences.specs.Ends.{first_at, last_at}
 use Rattle.totals.specs.Adding.{sum_to, total}
-use Rattle.totals.specs.Reaching.{number_at, sum_of, reach_to, Least, Value, Reachable, Moderate}
+use Rattle.totals.specs.declared.reaching.Limit.{Limit}
+use Rattle.totals.specs.Reaching.{limit_at, limited, reach_to, reach_of, Least, Value, Reachable, Moderate}
 use Rattle.totals.specs.Cuts.{column_at, Columns, least, most, greatest_with, least_with, FirstLeft, LastLeft, CutAt}
 
--- the total of n summands that are at most their tops, and at most v plus their ways
-reach_is : (tops ways : List ℤ) (v : ℤ) (g : ℕ → ℤ) (n : ℕ) → ((a : ℕ) → a < n → int_min (number_at tops a) (v +ℤ number_at ways a) ≡ g a) → reach_to tops ways v n ≡ sum_to n g
-reach_is tops ways v g zero h = refl
-reach_is tops ways v g (suc n) h = let r = reach_is tops ways v g n (λ a l. h a (omega arith)) in let e = h n (omega arith) in omega (arith, ints)
+-- the total of n summands that are each at most g
+reach_is : (ls : List Limit) (v : ℤ) (g : ℕ → ℤ) (n : ℕ) → ((a : ℕ) → a < n → limited (limit_at ls a) v ≡ g a) → reach_to ls v n ≡ sum_to n g
+reach_is ls v g zero h = refl
+reach_is ls v g (suc n) h = let r = reach_is ls v g n (λ a l. h a (omega arith)) in let e = h n (omega arith) in omega (arith, ints)
 
 -- with every sign turned, it is the least total
-reach_turned : (tops ways : List ℤ) (v : ℤ) (g : ℕ → ℤ) (n : ℕ) → ((a : ℕ) → a < n → int_min (number_at tops a) (v +ℤ number_at ways a) ≡ pos 0 -ℤ g a) → reach_to tops ways v n ≡ pos 0 -ℤ sum_to n g
-reach_turned tops ways v g zero h = refl
-reach_turned tops ways v g (suc n) h = let r = reach_turned tops ways v g n (λ a l. h a (omega arith)) in let e = h n (omega arith) in omega (arith, ints)
+reach_turned : (ls : List Limit) (v : ℤ) (g : ℕ → ℤ) (n : ℕ) → ((a : ℕ) → a < n → limited (limit_at ls a) v ≡ pos 0 -ℤ g a) → reach_to ls v n ≡ pos 0 -ℤ sum_to n g
+reach_turned ls v g zero h = refl
+reach_turned ls v g (suc n) h = let r = reach_turned ls v g n (λ a l. h a (omega arith)) in let e = h n (omega arith) in omega (arith, ints)
 
-module _ (d : ℕ → ℕ → ℤ) (ws : List Window) (ss : List ℕ) (j : ℕ) (tops ways : List ℤ)
+pub limit_is : (top top' way way' : ℤ) → top ≡ top' → way ≡ way' → ◌≡◌ {A = Limit} (record { top = top; way = way }) (record { top = top'; way = way' })
+limit_is top top' way way' p q i = record { top = p i; way = q i }
+
+-- the limits that column j leaves each summand, upward and, with every sign turned, downward
+pub record Upward (d : ℕ → ℕ → ℤ) (ws : List Window) (ss : List ℕ) (j : ℕ) (ls : List Limit) : Type 0 where
+  pub long : length ls ≡ length ss
+  pub top : (a : ℕ) → a < length ss → (limit_at ls a).top ≡ last_at ws (column_at ss a)
+  pub way : (a : ℕ) → a < length ss → (limit_at ls a).way ≡ d j (column_at ss a)
+
+pub record Downward (d : ℕ → ℕ → ℤ) (ws : List Window) (ss : List ℕ) (j : ℕ) (ls : List Limit) : Type 0 where
+  pub long : length ls ≡ length ss
+  pub top : (a : ℕ) → a < length ss → (limit_at ls a).top ≡ pos 0 -ℤ first_at ws (column_at ss a)
+  pub way : (a : ℕ) → a < length ss → (limit_at ls a).way ≡ d (column_at ss a) j
+
+-- the leading limits of a row
+module _ (d : ℕ → ℕ → ℤ) (ws : List Window) (ss : List ℕ) (j : ℕ) (row : List Limit) (long : length row ≡ 31) (few : length ss ≤ 31) where
+  leading_long : length (take (length ss) row) ≡ length ss
+  leading_long = length-take-le (length ss) row (omega arith)
+
+  leading : (a : ℕ) → a < length ss → limit_at (take (length ss) row) a ≡ limit_at row a
+  leading a l = get_or-take (length ss) row a _ l
+
+  pub upward_row : ((a : ℕ) → a < length ss → limit_at row a ≡ record { top = last_at ws (column_at ss a); way = d j (column_at ss a) }) → Upward d ws ss j (take (length ss) row)
+  upward_row is =
+      record {
+        long = leading_long;
+        top = λ a l. ap (λ (m : Limit). m.top) (leading a l ∙ is a l);
+        way = λ a l. ap (λ (m : Limit). m.way) (leading a l ∙ is a l);
+      }
+
+  pub downward_row : ((a : ℕ) → a < length ss → limit_at row a ≡ record { top = pos 0 -ℤ first_at ws (column_at ss a); way = d (column_at ss a) j }) → Downward d ws ss j (take (length ss) row)
+  downward_row is =
+      record {
+        long = leading_long;
+        top = λ a l. ap (λ (m : Limit). m.top) (leading a l ∙ is a l);
+        way = λ a l. ap (λ (m : Limit). m.way) (leading a l ∙ is a l);
+      }
+
+module _ (d : ℕ → ℕ → ℤ) (ws : List Window) (ss : List ℕ) (j : ℕ) (ls : List Limit)
     (closed : Closed (length ws) d) (lawful : all_lawful ws ≡ true) (there : Columns (length ws) ss) (here : j < length ws) where
   ends_of : (i : ℕ) → i < length ws → Ends (window_at ws i)
   ends_of i h = lawful_ends (window_at ws i) (lawful_at ws i lawful h)
 
-  -- tops are the last values, and ways the distances from j
-  module _ (top-is : (a : ℕ) → a < length ss → number_at tops a ≡ last_at ws (column_at ss a)) (way_is : (a : ℕ) → a < length ss → number_at ways a ≡ d j (column_at ss a)) where
-    pub forth_reachable : Reachable tops ways (length ss)
-    forth_reachable =
+  module _ (U : Upward d ws ss j ls) where
+    pub up_reachable : Reachable ls
+    up_reachable =
         record {
-          top = λ a l. let e = ends_of (column_at ss a) (there.there a l) in let q = top-is a l in (omega (arith, ints, e.low, e.order, e.high), omega (arith, ints, e.high));
-          way = λ a l. let c = closed.near j (column_at ss a) here (there.there a l) in let q = way_is a l in (omega (arith, ints), omega (arith, ints));
+          top = λ a h. let l : a < length ss = omega (arith, U.long) in let e = ends_of (column_at ss a) (there.there a l) in let q = U.top a l in (omega (arith, ints, e.low, e.order, e.high), omega (arith, ints, e.high));
+          way = λ a h. let l : a < length ss = omega (arith, U.long) in let c = closed.near j (column_at ss a) here (there.there a l) in let q = U.way a l in (omega (arith, ints), omega (arith, ints));
         }
 
-    pub forth_reaches : (v : ℤ) → reach_to tops ways v (length ss) ≡ greatest_with d ws ss j v
-    forth_reaches v = reach_is tops ways v _ (length ss) (λ a l. let p = top-is a l in let q = way_is a l in omega (arith, ints, clamps))
+    pub up_reaches : (v : ℤ) → reach_of ls v ≡ greatest_with d ws ss j v
+    up_reaches v =
+        rw U.long
+        (reach_is ls v _ (length ss) (λ a l. let p = U.top a l in let q = U.way a l in omega (arith, ints, clamps)))
 
     -- in the numbers of the code
-    pub forth_most : (low low' v v' : ℤ) → low ≤ℤ greatest_with d ws ss j v → v' ≡ v → low' ≡ low → low' ≤ℤ reach_to tops ways v' (length ss)
-    forth_most low low' v v' h e f = let r = forth_reaches v in let g = ap (λ (u : ℤ). reach_to tops ways u (length ss)) e in omega (arith, ints)
+    pub up_most : (low low' v v' : ℤ) → low ≤ℤ greatest_with d ws ss j v → v' ≡ v → low' ≡ low → low' ≤ℤ reach_of ls v'
+    up_most low low' v v' h e f = let r = up_reaches v in let g = ap (reach_of ls) e in omega (arith, ints)
 
-    pub first_left : (low low' from v v' : ℤ) → Least tops ways (length ss) low' from v' → low' ≡ low → from ≡ first_at ws j → v ≡ v' → FirstLeft d ws ss j low v
+    pub first_left : (low low' from v v' : ℤ) → Least ls low' from v' → low' ≡ low → from ≡ first_at ws j → v ≡ v' → FirstLeft d ws ss j low v
     first_left low low' from v v' m' p q s =
-        let m : Least tops ways (length ss) low (first_at ws j) v =
-        subst (λ (x : ℤ). Least tops ways (length ss) x (first_at ws j) v) p (subst (λ (x : ℤ). Least tops ways (length ss) low' x v) q (subst (λ (x : ℤ). Least tops ways (length ss) low' from x) (sym s) m')) in
+        let m : Least ls low (first_at ws j) v =
+        subst (λ (x : ℤ). Least ls x (first_at ws j) v) p (subst (λ (x : ℤ). Least ls low' x v) q (subst (λ (x : ℤ). Least ls low' from x) (sym s) m')) in
         record {
           late = m.late;
-          reached = let e = forth_reaches v in let r = m.reached in omega (arith, ints);
-          before = λ u l h. let e = forth_reaches u in let r = m.first u l h in omega (arith, ints);
+          reached = let e = up_reaches v in let r = m.reached in omega (arith, ints);
+          before = λ u l h. let e = up_reaches u in let r = m.first u l h in omega (arith, ints);
         }
 
-  -- tops are the first values turned, and ways the distances to j
-  module _ (top-is : (a : ℕ) → a < length ss → number_at tops a ≡ pos 0 -ℤ first_at ws (column_at ss a)) (way_is : (a : ℕ) → a < length ss → number_at ways a ≡ d (column_at ss a) j) where
-    pub back_reachable : Reachable tops ways (length ss)
-    back_reachable =
+  module _ (U : Downward d ws ss j ls) where
+    pub down_reachable : Reachable ls
+    down_reachable =
         record {
-          top = λ a l. let e = ends_of (column_at ss a) (there.there a l) in let q = top-is a l in (omega (arith, ints, e.low, e.order, e.high), omega (arith, ints, e.low));
-          way = λ a l. let c = closed.near (column_at ss a) j (there.there a l) here in let q = way_is a l in (omega (arith, ints), omega (arith, ints));
+          top = λ a h. let l : a < length ss = omega (arith, U.long) in let e = ends_of (column_at ss a) (there.there a l) in let q = U.top a l in (omega (arith, ints, e.low, e.order, e.high), omega (arith, ints, e.low));
+          way = λ a h. let l : a < length ss = omega (arith, U.long) in let c = closed.near (column_at ss a) j (there.there a l) here in let q = U.way a l in (omega (arith, ints), omega (arith, ints));
         }
 
-    pub back_reaches : (v : ℤ) → reach_to tops ways (pos 0 -ℤ v) (length ss) ≡ pos 0 -ℤ least_with d ws ss j v
-    back_reaches v = reach_turned tops ways (pos 0 -ℤ v) _ (length ss) (λ a l. let p = top-is a l in let q = way_is a l in omega (arith, ints, clamps))
+    pub down_reaches : (v : ℤ) → reach_of ls (pos 0 -ℤ v) ≡ pos 0 -ℤ least_with d ws ss j v
+    down_reaches v =
+        rw U.long
+        (reach_turned ls (pos 0 -ℤ v) _ (length ss) (λ a l. let p = U.top a l in let q = U.way a l in omega (arith, ints, clamps)))
 
     -- in the numbers of the code
-    pub back_most : (high high' v v' : ℤ) → least_with d ws ss j v ≤ℤ high → v' ≡ pos 0 -ℤ v → high' ≡ pos 0 -ℤ high → high' ≤ℤ reach_to tops ways v' (length ss)
-    back_most high high' v v' h e f = let r = back_reaches v in let g = ap (λ (u : ℤ). reach_to tops ways u (length ss)) e in omega (arith, ints)
+    pub down_most : (high high' v v' : ℤ) → least_with d ws ss j v ≤ℤ high → v' ≡ pos 0 -ℤ v → high' ≡ pos 0 -ℤ high → high' ≤ℤ reach_of ls v'
+    down_most high high' v v' h e f = let r = down_reaches v in let g = ap (reach_of ls) e in omega (arith, ints)
 
-    pub last_left : (high high' from v v' : ℤ) → Least tops ways (length ss) high' from v' → high' ≡ pos 0 -ℤ high → from ≡ pos 0 -ℤ last_at ws j → v' ≡ pos 0 -ℤ v → LastLeft d ws ss j high v
+    pub last_left : (high high' from v v' : ℤ) → Least ls high' from v' → high' ≡ pos 0 -ℤ high → from ≡ pos 0 -ℤ last_at ws j → v' ≡ pos 0 -ℤ v → LastLeft d ws ss j high v
     last_left high high' from v v' m' p q s =
-        let m : Least tops ways (length ss) (pos 0 -ℤ high) (pos 0 -ℤ last_at ws j) (pos 0 -ℤ v) =
-        subst (λ (x : ℤ). Least tops ways (length ss) x (pos 0 -ℤ last_at ws j) (pos 0 -ℤ v)) p (subst (λ (x : ℤ). Least tops ways (length ss) high' x (pos 0 -ℤ v)) q (subst (λ (x : ℤ). Least tops ways (length ss) high' from x) s m')) in
+        let m : Least ls (pos 0 -ℤ high) (pos 0 -ℤ last_at ws j) (pos 0 -ℤ v) =
+        subst (λ (x : ℤ). Least ls x (pos 0 -ℤ last_at ws j) (pos 0 -ℤ v)) p (subst (λ (x : ℤ). Least ls high' x (pos 0 -ℤ v)) q (subst (λ (x : ℤ). Least ls high' from x) s m')) in
         record {
           early = let l = m.late in omega (arith, ints);
-          kept = let e = back_reaches v in let r = m.reached in omega (arith, ints);
-          after = λ u l h. let e = back_reaches u in let r = m.first (pos 0 -ℤ u) (omega (arith, ints)) (omega (arith, ints)) in omega (arith, ints);
+          kept = let e = down_reaches v in let r = m.reached in omega (arith, ints);
+          after = λ u l h. let e = down_reaches u in let r = m.first (pos 0 -ℤ u) (omega (arith, ints)) (omega (arith, ints)) in omega (arith, ints);
         }
-
--- the rows of last values, and of first values turned, added up
-module _ (ws : List Window) (ss : List ℕ) (row : List ℤ) (lawful : all_lawful ws ≡ true) (there : Columns (length ws) ss) where
-  held : (a : ℕ) → a < length ss → Ends (window_at ws (column_at ss a))
-  held a l = lawful_ends (window_at ws (column_at ss a)) (lawful_at ws (column_at ss a) lawful (there.there a l))
-
-  module _ (is : (a : ℕ) → a < length ss → number_at row a ≡ last_at ws (column_at ss a)) where
-    pub tops_values : (a : ℕ) → a < length ss → Value (number_at row a)
-    tops_values a l = let e = held a l in let q = is a l in (omega (arith, ints, e.low, e.order), omega (arith, ints, e.high))
-
-    tops_to : (n : ℕ) → n ≤ length ss → sum_of row n ≡ total n (column_at ss) (last_at ws)
-    tops_to zero h = refl
-    tops_to (suc n) h = let r = tops_to n (omega arith) in let q = is n (omega arith) in omega (arith, ints)
-
-    pub tops_sum : sum_of row (length ss) ≡ most ws ss
-    tops_sum = tops_to (length ss) (omega arith)
-
-  module _ (is : (a : ℕ) → a < length ss → number_at row a ≡ pos 0 -ℤ first_at ws (column_at ss a)) where
-    pub bottoms_values : (a : ℕ) → a < length ss → Value (number_at row a)
-    bottoms_values a l = let e = held a l in let q = is a l in (omega (arith, ints, e.order, e.high), omega (arith, ints, e.low))
-
-    bottoms_to : (n : ℕ) → n ≤ length ss → sum_of row n ≡ pos 0 -ℤ total n (column_at ss) (first_at ws)
-    bottoms_to zero h = refl
-    bottoms_to (suc n) h = let r = bottoms_to n (omega arith) in let q = is n (omega arith) in omega (arith, ints)
-
-    pub bottoms_sum : sum_of row (length ss) ≡ pos 0 -ℤ least ws ss
-    bottoms_sum = bottoms_to (length ss) (omega arith)
 
 -- what is left of a column, in the numbers of the code
 pub cut_total : (d : ℕ → ℕ → ℤ) (ws : List Window) (t : ℕ) (ss : List ℕ) (j : ℕ) (low high low' high' : ℤ) → j ≡ t → low' ≡ low → high' ≡ high → CutAt d ws t ss j low high (record { first = low'; last = high' })
@@ -132,10 +147,7 @@ pub range_values : (w : Window) (lo hi a b : ℤ) → Ends w → lo ≤ℤ hi �
 range_values w lo hi a b e le p q =
     ((omega (arith, ints, clamps, e.low), omega (arith, ints, clamps, e.high)), (omega (arith, ints, clamps, e.low), omega (arith, ints, clamps, e.high)))
 
--- a sum that is turned back, one that is taken as it is, and an end of a window, through the code's casts
-pub turned_back : (r a : ℤ) → Moderate r → r ≡ pos 0 -ℤ a → to_z w64 (of_z w64 (pos 0 -ℤ to_z w64 (of_z w64 r))) ≡ a
-turned_back r a m e = omega (arith, ints)
-
+-- a sum that is taken as it is, and an end of a window, through the code's casts
 pub taken_as : (r a : ℤ) → Moderate r → r ≡ a → to_z w64 (of_z w64 r) ≡ a
 taken_as r a m e = omega (arith, ints)
 

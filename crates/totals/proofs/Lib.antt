@@ -10,8 +10,8 @@ pub mod Summing
 pub mod Adds
 pub mod Ordered
 pub mod Plain
-pub mod Chained
 pub mod Placing
+pub mod Chained
 pub mod Judging
 pub mod Rows
 pub mod LinkedJudging

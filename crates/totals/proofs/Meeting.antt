@@ -100,11 +100,11 @@ module _ (n : ℕ) (d : ℕ → ℕ → ℤ) (us vs ms : List Window) (copy : us
   at_copy : (r : Result Verdict Fault) → Narrowed (distance_meaning n d) us r ms → Narrowed (distance_meaning (length vs) d) vs r ms
   at_copy r h = subst (λ (j : ℕ). Narrowed (distance_meaning j d) vs r ms) (sym width) (subst (λ (xs : List Window). Narrowed (distance_meaning n d) xs r ms) copy h)
 
-  pub copy_open : (v : Verdict) → v ≡ Open → Narrowed (distance_meaning n d) us (Ok v) ms → Opened (distance_meaning (length vs) d) vs ms
-  copy_open v e h = at_copy (Ok Open) (subst (λ (w : Verdict). Narrowed (distance_meaning n d) us (Ok w) ms) e h)
+  pub copy_open : (r : Result Verdict Fault) → r ≡ Ok Open → Narrowed (distance_meaning n d) us r ms → Opened (distance_meaning (length vs) d) vs ms
+  copy_open r e h = at_copy (Ok Open) (subst (λ (x : Result Verdict Fault). Narrowed (distance_meaning n d) us x ms) e h)
 
-  pub copy_void : (v : Verdict) → v ≡ Void → Narrowed (distance_meaning n d) us (Ok v) ms → NoPlan (obeys (length vs) d) vs
-  copy_void v e h = (at_copy (Ok Void) (subst (λ (w : Verdict). Narrowed (distance_meaning n d) us (Ok w) ms) e h)).none
+  pub copy_void : (r : Result Verdict Fault) → r ≡ Ok Void → Narrowed (distance_meaning n d) us r ms → NoPlan (obeys (length vs) d) vs
+  copy_void r e h = (at_copy (Ok Void) (subst (λ (x : Result Verdict Fault). Narrowed (distance_meaning n d) us x ms) e h)).none
 
-  pub copy_taken : (f : Fault) → all_lawful vs ≡ true → Narrowed (distance_meaning n d) us (Err f) ms → ⊥
-  copy_taken f lawful h = never_refused (length vs) d vs ms f lawful refl (at_copy (Err f) h)
+  pub copy_taken : (r : Result Verdict Fault) (f : Fault) → r ≡ Err f → all_lawful vs ≡ true → Narrowed (distance_meaning n d) us r ms → ⊥
+  copy_taken r f e lawful h = never_refused (length vs) d vs ms f lawful refl (at_copy (Err f) (subst (λ (x : Result Verdict Fault). Narrowed (distance_meaning n d) us x ms) e h))

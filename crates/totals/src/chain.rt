@@ -3,15 +3,11 @@
 ghost use Rattle.std.specs.Prelude.{◌≡◌, ◌≤◌, length};
 ghost use Rattle.totals.specs.Cuts.{Columns};
 ghost use Rattle.totals.specs.Sums.{Distinct};
-ghost use Rattle.totals.specs.Orders.{Placed, chain_distance};
+ghost use Rattle.totals.specs.Orders.{Placed, place_of, chain_distance};
 
-use crate::reaching::MOST_SUMMANDS;
 use differences::Distance;
 use differences::link::FARTHEST;
 use rules::window::MOST_COLUMNS;
-
-/// The place of a column that is not in the order.
-const NO_PLACE: usize = MOST_SUMMANDS;
 
 /// The distances of 1 to 32 columns of which some never fall in a given order: each of these is at most any that stands after it.
 ///
@@ -19,7 +15,7 @@ const NO_PLACE: usize = MOST_SUMMANDS;
 #[derive(Clone, Copy)]
 pub struct Chain {
     columns: usize,
-    places: [usize; 32],
+    places: [Option<usize>; 32],
     ghost some: { 1 ≤ columns },
     ghost few: { columns ≤ 32 },
 }
@@ -35,11 +31,18 @@ impl Chain {
         ensures width { result.columns ≡ columns }
         ensures placed { Placed summands.now result.places }
     {
-        let mut places = [NO_PLACE; MOST_COLUMNS];
+        let mut places = [None; MOST_COLUMNS];
         for (place, column) in summands.iter().enumerate() {
-            places[*column] = place;
+            places[*column] = Some(place);
         }
         Chain { columns, places }
+    }
+
+    /// The place of a column in the order.
+    fn place(&self, column: usize) -> Option<usize>
+        ensures { result ≡ place_of self.now.places column }
+    {
+        *self.places.get(column)?
     }
 }
 
@@ -56,14 +59,9 @@ impl Distance for Chain {
         if i == j {
             return 0;
         }
-        if i >= MOST_COLUMNS || j >= MOST_COLUMNS {
-            return FARTHEST;
-        }
-        let place = self.places[i];
-        if self.places[j] <= place && place < NO_PLACE {
-            0
-        } else {
-            FARTHEST
+        match (self.place(i), self.place(j)) {
+            (Some(here), Some(there)) if there <= here => 0,
+            _ => FARTHEST,
         }
     }
 }

@@ -1,244 +1,155 @@
 //! What a total leaves of windows that distances have trimmed.
 
-ghost use Rattle.std.specs.Prelude.{◌≡◌, ℕ, ◌<◌, ◌≤◌, true, length, ℤ, pos, negsuc, ◌-ℤ◌, ◌≤ℤ◌};
-ghost use Rattle.rules.specs.Plans.{all_lawful, window_at};
+ghost use Rattle.std.specs.Prelude.{◌≡◌, ℕ, ◌<◌, ◌≤◌, true, length, pos, ◌-ℤ◌, ◌≤ℤ◌};
+ghost use Rattle.rules.specs.Plans.{all_lawful};
 ghost use Rattle.differences.specs.Tables.{Closed};
 ghost use Rattle.differences.specs.Ends.{first_at, last_at};
-ghost use Rattle.totals.specs.Reaching.{Value, Moderate, number_at, sum_of};
-ghost use Rattle.totals.specs.Cuts.{column_at, Columns, least, most, least_with, greatest_with, FirstLeft, LastLeft, CutAt, EndsObey, Meeting, TotalOutcome, low_of, high_of};
+ghost use Rattle.totals.specs.Reaching.{Value, Moderate, limit_at};
+ghost use Rattle.totals.specs.Cuts.{column_at, Columns, least, most, least_with, greatest_with, FirstLeft, LastLeft, CutAt, EndsObey, Meeting, low_of, high_of};
 
-use crate::reaching::{MOST_SUMMANDS, Row, least_reaching};
-use differences::{Distance, trim_by};
+use crate::reaching::{Limit, Limits, MOST_SUMMANDS};
+use differences::Distance;
 use rules::{Verdict, Window};
 
-/// The last values of the summands.
-fn tops(windows: &[Window], summands: &[usize]) -> Row
+/// Windows that distances have trimmed, with a total and its summands among their columns.
+#[derive(Drop)]
+pub(crate) struct Settled<'a, D: Distance> {
+    pub(crate) distances: &'a D,
+    pub(crate) windows: &'a [Window],
+    pub(crate) total: usize,
+    pub(crate) summands: &'a [usize],
+    ghost closed: { Closed (length windows.now) (D.Distance.distance distances.now) },
+    ghost lawful: { all_lawful windows.now ≡ true },
+    ghost ends: { EndsObey (length windows.now) (D.Distance.distance distances.now) windows.now },
+    ghost few: { length summands.now ≤ 31 },
+    ghost there: { Columns (length windows.now) summands.now },
+    ghost here: { total < length windows.now },
+}
+
+/// The limit of each summand, and others after them.
+fn limits<F: Fn(usize) -> Limit>(summands: &[usize], limit: F) -> [Limit; MOST_SUMMANDS]
     requires few { length summands.now ≤ 31 }
-    requires there { Columns (length windows.now) summands.now }
-    ensures { (a : ℕ) → a < length summands.now → number_at result a ≡ last_at windows.now (column_at summands.now a) }
+    requires callable { (a : ℕ) → a < length summands.now → F.pre limit (column_at summands.now a) }
+    ensures long { length result ≡ 31 }
+    ensures each { (a : ℕ) → a < length summands.now → F.post limit (column_at summands.now a) (limit_at result a) }
 {
-    let mut row = [0; MOST_SUMMANDS];
+    let mut row = [Limit { top: 0, way: 0 }; MOST_SUMMANDS];
+    // By the index: after a zip with `iter_mut` a proof knows nothing of what was written.
     for (a, column) in summands.iter().enumerate() {
-        row[a] = windows[*column].last;
+        row[a] = limit(*column);
     }
     row
 }
 
-/// The number with its sign turned.
-fn turned(v: i32) -> i32
-    requires { Value v }
-    ensures { result ≡ pos 0 -ℤ v }
-{
-    -v
-}
-
-/// The first values of the summands, with every sign turned.
-fn bottoms(windows: &[Window], summands: &[usize]) -> Row
-    requires few { length summands.now ≤ 31 }
-    requires there { Columns (length windows.now) summands.now }
-    requires lawful { all_lawful windows.now ≡ true }
-    ensures { (a : ℕ) → a < length summands.now → number_at result a ≡ pos 0 -ℤ first_at windows.now (column_at summands.now a) }
-{
-    let mut row = [0; MOST_SUMMANDS];
-    for (a, column) in summands.iter().enumerate() {
-        row[a] = turned(windows[*column].first);
+impl<'a, D: Distance> Settled<'a, D> {
+    /// What column `j` leaves summand `i`: at most its last value, and at most column `j` plus the distance to it.
+    fn upward(&self, j: usize, i: usize) -> Limit
+        requires { i < length self.now.windows.now }
+        ensures { result ≡ record { top = last_at self.now.windows.now i; way = D.Distance.distance self.now.distances.now j i } }
+    {
+        Limit {
+            top: self.windows[i].last,
+            way: self.distances.between(j, i),
+        }
     }
-    row
-}
 
-/// The distances from column `j` to the summands.
-fn forth<D: Distance>(distances: &D, j: usize, summands: &[usize]) -> Row
-    requires few { length summands.now ≤ 31 }
-    ensures { (a : ℕ) → a < length summands.now → number_at result a ≡ D.Distance.distance distances.now j (column_at summands.now a) }
-{
-    let mut row = [0; MOST_SUMMANDS];
-    for (a, column) in summands.iter().enumerate() {
-        row[a] = distances.between(j, *column);
+    /// The same downward, with every sign turned: at most its first value, and at most column `j` plus the distance from it.
+    fn downward(&self, j: usize, i: usize) -> Limit
+        requires { i < length self.now.windows.now }
+        ensures { result ≡ record { top = pos 0 -ℤ first_at self.now.windows.now i; way = D.Distance.distance self.now.distances.now i j } }
+    {
+        Limit {
+            top: -self.windows[i].first,
+            way: self.distances.between(i, j),
+        }
     }
-    row
-}
 
-/// The distances from the summands to column `j`.
-fn back<D: Distance>(distances: &D, j: usize, summands: &[usize]) -> Row
-    requires few { length summands.now ≤ 31 }
-    ensures { (a : ℕ) → a < length summands.now → number_at result a ≡ D.Distance.distance distances.now (column_at summands.now a) j }
-{
-    let mut row = [0; MOST_SUMMANDS];
-    for (a, column) in summands.iter().enumerate() {
-        row[a] = distances.between(*column, j);
+    /// The first value of column `j` at which the total can be `low` or more.
+    fn first_left(&self, j: usize, low: i64) -> i32
+        requires here { j < length self.now.windows.now }
+        requires most { low ≤ℤ greatest_with (D.Distance.distance self.now.distances.now) self.now.windows.now self.now.summands.now j (last_at self.now.windows.now j) }
+        ensures { FirstLeft (D.Distance.distance self.now.distances.now) self.now.windows.now self.now.summands.now j low result }
+    {
+        let row = limits(self.summands, |i| self.upward(j, i));
+        let each = &row[..self.summands.len()];
+        let window = self.windows[j];
+        Limits { each }.least_reaching(low, window.first, window.last)
     }
-    row
-}
 
-/// The first `n` numbers added up.
-fn added(row: &Row, n: usize) -> i64
-    requires few { n ≤ 31 }
-    requires values { (a : ℕ) → a < n → Value (number_at row.now a) }
-    ensures is { result ≡ sum_of row.now n }
-    ensures moderate { Moderate result }
-{
-    let mut sum = 0;
-    for a in 0..n {
-        sum += i64::from(row[a]);
+    /// The last value of column `j` at which the total can be `high` or less: the same search with every sign turned.
+    fn last_left(&self, j: usize, high: i64) -> i32
+        requires here { j < length self.now.windows.now }
+        requires least { least_with (D.Distance.distance self.now.distances.now) self.now.windows.now self.now.summands.now j (first_at self.now.windows.now j) ≤ℤ high }
+        requires moderate { Moderate high }
+        ensures { LastLeft (D.Distance.distance self.now.distances.now) self.now.windows.now self.now.summands.now j high result }
+    {
+        let row = limits(self.summands, |i| self.downward(j, i));
+        let each = &row[..self.summands.len()];
+        let window = self.windows[j];
+        -Limits { each }.least_reaching(-high, -window.last, -window.first)
     }
-    sum
-}
 
-/// The first value of column `j` at which the total can be `low` or more.
-fn first_left<D: Distance>(
-    distances: &D,
-    windows: &[Window],
-    summands: &[usize],
-    j: usize,
-    low: i64,
-) -> i32
-    requires closed { Closed (length windows.now) (D.Distance.distance distances.now) }
-    requires lawful { all_lawful windows.now ≡ true }
-    requires few { length summands.now ≤ 31 }
-    requires there { Columns (length windows.now) summands.now }
-    requires here { j < length windows.now }
-    requires most { low ≤ℤ greatest_with (D.Distance.distance distances.now) windows.now summands.now j (last_at windows.now j) }
-    ensures { FirstLeft (D.Distance.distance distances.now) windows.now summands.now j low result }
-{
-    let tops = tops(windows, summands);
-    let ways = forth(distances, j, summands);
-    let n = summands.len();
-    let window = windows[j];
-    least_reaching(&tops, &ways, n, low, window.first, window.last)
-}
-
-/// The last value of column `j` at which the total can be `high` or less.
-fn last_left<D: Distance>(
-    distances: &D,
-    windows: &[Window],
-    summands: &[usize],
-    j: usize,
-    high: i64,
-) -> i32
-    requires closed { Closed (length windows.now) (D.Distance.distance distances.now) }
-    requires lawful { all_lawful windows.now ≡ true }
-    requires few { length summands.now ≤ 31 }
-    requires there { Columns (length windows.now) summands.now }
-    requires here { j < length windows.now }
-    requires least { least_with (D.Distance.distance distances.now) windows.now summands.now j (first_at windows.now j) ≤ℤ high }
-    requires moderate { Moderate high }
-    ensures { LastLeft (D.Distance.distance distances.now) windows.now summands.now j high result }
-{
-    let bottoms = bottoms(windows, summands);
-    let ways = back(distances, j, summands);
-    let n = summands.len();
-    let window = windows[j];
-    let turned_last = least_reaching(
-        &bottoms,
-        &ways,
-        n,
-        -high,
-        turned(window.last),
-        turned(window.first),
-    );
-    turned(turned_last)
-}
-
-/// What is left of column `j`: from `low` to `high` if it is the total's, else what the total leaves of it.
-fn cut_at<D: Distance>(
-    distances: &D,
-    windows: &[Window],
-    total: usize,
-    summands: &[usize],
-    j: usize,
-    low: i64,
-    high: i64,
-) -> Window
-    requires closed { Closed (length windows.now) (D.Distance.distance distances.now) }
-    requires lawful { all_lawful windows.now ≡ true }
-    requires few { length summands.now ≤ 31 }
-    requires there { Columns (length windows.now) summands.now }
-    requires here { j < length windows.now }
-    requires values { Value low × Value high }
-    requires least { least_with (D.Distance.distance distances.now) windows.now summands.now j (first_at windows.now j) ≤ℤ high }
-    requires most { low ≤ℤ greatest_with (D.Distance.distance distances.now) windows.now summands.now j (last_at windows.now j) }
-    ensures { CutAt (D.Distance.distance distances.now) windows.now total summands.now j low high result }
-{
-    if j == total {
-        return Window {
-            first: low as i32,
-            last: high as i32,
-        };
+    /// What is left of column `j`: from `low` to `high` if it is the total's, else what the total leaves of it.
+    fn cut_at(&self, j: usize, low: i64, high: i64) -> Window
+        requires here { j < length self.now.windows.now }
+        requires values { Value low × Value high }
+        requires least { least_with (D.Distance.distance self.now.distances.now) self.now.windows.now self.now.summands.now j (first_at self.now.windows.now j) ≤ℤ high }
+        requires most { low ≤ℤ greatest_with (D.Distance.distance self.now.distances.now) self.now.windows.now self.now.summands.now j (last_at self.now.windows.now j) }
+        ensures { CutAt (D.Distance.distance self.now.distances.now) self.now.windows.now self.now.total self.now.summands.now j low high result }
+    {
+        if j == self.total {
+            return Window {
+                first: low as i32,
+                last: high as i32,
+            };
+        }
+        let first = self.first_left(j, low);
+        let last = self.last_left(j, high);
+        Window { first, last }
     }
-    let first = first_left(distances, windows, summands, j, low);
-    let last = last_left(distances, windows, summands, j, high);
-    Window { first, last }
-}
 
-/// The least and the most that the total can be, by its own window and by those of the summands.
-fn range(windows: &[Window], total: usize, summands: &[usize]) -> (i64, i64)
-    requires lawful { all_lawful windows.now ≡ true }
-    requires few { length summands.now ≤ 31 }
-    requires there { Columns (length windows.now) summands.now }
-    requires here { total < length windows.now }
-    ensures low { result.0 ≡ low_of windows.now total summands.now }
-    ensures high { result.1 ≡ high_of windows.now total summands.now }
-    ensures values { result.0 ≤ℤ result.1 → Value result.0 × Value result.1 }
-{
-    let n = summands.len();
-    let least = -added(&bottoms(windows, summands), n);
-    let most = added(&tops(windows, summands), n);
-    let window = windows[total];
-    (
-        least.max(i64::from(window.first)),
-        most.min(i64::from(window.last)),
-    )
-}
-
-/// Cuts `windows` down to what the total leaves of `settled`, which the distances have trimmed. `Void` leaves them as they were.
-fn meet<D: Distance>(
-    distances: &D,
-    settled: &[Window],
-    total: usize,
-    summands: &[usize],
-    windows: &mut [Window],
-) -> Verdict
-    requires closed { Closed (length settled.now) (D.Distance.distance distances.now) }
-    requires lawful { all_lawful settled.now ≡ true }
-    requires ends { EndsObey (length settled.now) (D.Distance.distance distances.now) settled.now }
-    requires few { length summands.now ≤ 31 }
-    requires there { Columns (length settled.now) summands.now }
-    requires here { total < length settled.now }
-    requires long { length windows.old ≡ length settled.now }
-    ensures { Meeting (length settled.now) (D.Distance.distance distances.now) total summands.now settled.now windows.old result windows.new }
-{
-    let (low, high) = range(settled, total, summands);
-    if low > high {
-        return Verdict::Void;
+    /// The first values of the summands added up, and their last.
+    fn sums(&self) -> (i64, i64)
+        ensures first { result.0 ≡ least self.now.windows.now self.now.summands.now }
+        ensures last { result.1 ≡ most self.now.windows.now self.now.summands.now }
+        ensures moderate { Moderate result.0 × Moderate result.1 }
+    {
+        let mut least = 0;
+        let mut most = 0;
+        for column in self.summands {
+            let window = self.windows[*column];
+            least += i64::from(window.first);
+            most += i64::from(window.last);
+        }
+        (least, most)
     }
-    for j in 0..settled.len() {
-        windows[j] = cut_at(distances, settled, total, summands, j, low, high);
-    }
-    Verdict::Open
-}
 
-/// Trims by the distances in `settled`, a copy of `windows`, then by the total. `Void` leaves `windows` as they were.
-pub(crate) fn trim_through<D: Distance>(
-    distances: &D,
-    total: usize,
-    summands: &[usize],
-    settled: &mut [Window],
-    windows: &mut [Window],
-) -> Verdict
-    requires width { length windows.old ≡ D.Distance.width distances.now }
-    requires closed { Closed (length windows.old) (D.Distance.distance distances.now) }
-    requires copy { settled.old ≡ windows.old }
-    requires lawful { all_lawful windows.old ≡ true }
-    requires few { length summands.now ≤ 31 }
-    requires there { Columns (length windows.old) summands.now }
-    requires here { total < length windows.old }
-    ensures { TotalOutcome (length windows.old) (D.Distance.distance distances.now) total summands.now windows.old result windows.new }
-{
-    match trim_by(distances, settled) {
-        Err(_) => Verdict::Void,
-        Ok(verdict) => match verdict {
-            Verdict::Void => Verdict::Void,
-            Verdict::Open => meet(distances, settled, total, summands, windows),
-        },
+    /// The least and the most that the total can be, by its own window and by those of the summands.
+    fn range(&self) -> (i64, i64)
+        ensures low { result.0 ≡ low_of self.now.windows.now self.now.total self.now.summands.now }
+        ensures high { result.1 ≡ high_of self.now.windows.now self.now.total self.now.summands.now }
+        ensures values { result.0 ≤ℤ result.1 → Value result.0 × Value result.1 }
+    {
+        let (least, most) = self.sums();
+        let window = self.windows[self.total];
+        (
+            least.max(i64::from(window.first)),
+            most.min(i64::from(window.last)),
+        )
+    }
+
+    /// Cuts `windows` down to what the total leaves of the settled ones. `Void` leaves them as they were.
+    pub(crate) fn meet(&self, windows: &mut [Window]) -> Verdict
+        requires { length windows.old ≡ length self.now.windows.now }
+        ensures { Meeting (length self.now.windows.now) (D.Distance.distance self.now.distances.now) self.now.total self.now.summands.now self.now.windows.now windows.old result windows.new }
+    {
+        let (low, high) = self.range();
+        if low > high {
+            return Verdict::Void;
+        }
+        for (j, window) in windows.iter_mut().enumerate() {
+            *window = self.cut_at(j, low, high);
+        }
+        Verdict::Open
     }
 }

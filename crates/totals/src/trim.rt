@@ -5,8 +5,8 @@ ghost use Rattle.rules.specs.Plans.{all_lawful};
 ghost use Rattle.differences.specs.Tables.{Closed};
 ghost use Rattle.totals.specs.Cuts.{Columns, TotalOutcome};
 
-use crate::cutting::trim_through;
-use differences::Distance;
+use crate::cutting::Settled;
+use differences::{Distance, trim_by};
 use rules::window::MOST_COLUMNS;
 use rules::{Verdict, Window};
 
@@ -27,7 +27,19 @@ pub(crate) fn trim_total<D: Distance>(
     ensures { TotalOutcome (length windows.old) (D.Distance.distance distances.now) total summands.now windows.old result windows.new }
 {
     let mut room = [Window { first: 0, last: 0 }; MOST_COLUMNS];
-    let settled = &mut room[0..windows.len()];
+    let settled = &mut room[..windows.len()];
     settled.copy_from_slice(windows);
-    trim_through(distances, total, summands, settled, windows)
+    match trim_by(distances, settled) {
+        Ok(Verdict::Open) => {
+            let settled = Settled {
+                distances,
+                windows: settled,
+                total,
+                summands,
+            };
+            settled.meet(windows)
+        }
+        Ok(Verdict::Void) => Verdict::Void,
+        Err(_) => Verdict::Void,
+    }
 }

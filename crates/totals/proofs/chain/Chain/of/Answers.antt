@@ -3,7 +3,7 @@ use Rattle.totals.proofs.Placing.{placing_none, placing_more, placing_all}
 use Rattle.totals.proofs.chain.Chain.of.Goals as goal
 
 pub loop-place-init : goal.loop-place-init
-loop-place-init c = placing_none _ _ refl
+loop-place-init c = placing_none _
 
 pub loop-place-preserved : goal.loop-place-preserved
 loop-place-preserved c =

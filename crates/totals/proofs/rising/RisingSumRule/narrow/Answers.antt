@@ -44,6 +44,6 @@ returns c =
       same = refl;
       outcome =
           row_narrowed rising_sum c.args.self.now.terms c.width.result c.args.windows.now c.width.ensures ok g _ _
-          (rising_meets c.args.self.now.terms.columns c.args.self.now.terms.total (row_summands c.args.self.now.terms) c.of.result.places g.taken.few g.taken.fit g.taken.total g.taken.columns g.taken.distinct c.of.ensures.placed)
+          (rising_meets c.args.self.now.terms.columns c.args.self.now.terms.total (row_summands c.args.self.now.terms) c.of.result.places g.taken.total g.taken.columns g.taken.distinct c.of.ensures.placed)
           c.trim_total.result c.trim_total.new.windows c.trim_total.ensures;
     }
