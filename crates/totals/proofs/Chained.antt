@@ -7,11 +7,10 @@ use Rattle.rules.specs.Plans.{value_at}
 use Rattle.differences.specs.Tables.{Closed}
 use Rattle.totals.specs.Cuts.{column_at, Columns}
 use Rattle.totals.specs.Sums.{sums, Distinct}
-use Rattle.totals.specs.Orders.{place_of, no_later, not_after, chain_distance, Placed}
+use Rattle.totals.specs.Orders.{place_of, no_later, not_after, chain_distance, Placed, Preorder, InOrder, Totals}
 use Rattle.totals.specs.Rising.{rising_from, rising, rising_sum}
-use Rattle.totals.proofs.Supporting.{Meets}
 use Rattle.totals.proofs.Adds.{sums-total, total-sums}
-use Rattle.totals.proofs.Ordered.{Preorder, InOrder, order_way, order_closed, order_meets}
+use Rattle.totals.proofs.Ordered.{order_closed}
 use Rattle.totals.proofs.Plain.{total_apart}
 use Rattle.totals.proofs.Placing.{some_same}
 
@@ -146,10 +145,9 @@ module _ (k t : ℕ) (ss : List ℕ) (places : List (Option ℕ)) (ht : t < k) (
   to_total : (i : ℕ) → R i t ≡ true → i ≡ t
   to_total i h = ⊎_elim (λ e. e) (λ ne. let l = later_than places i t h ne in absurd (total_unplaced l.before l.there)) (cases_eq i t)
 
-  pub rising_meets : Meets k (chain_distance places) (order_way (not_after places)) t ss (rising_sum t ss)
-  rising_meets =
-      order_meets k R t ss (rising_sum t ss)
-      (record {
+  pub rising_totals : Totals k (not_after places) t ss (rising_sum t ss)
+  rising_totals =
+      record {
         order = chain_order places;
         there = ht;
         column = there.there;
@@ -160,4 +158,4 @@ module _ (k t : ℕ) (ss : List ℕ) (places : List (Option ℕ)) (ht : t < k) (
         allows = λ x o e. and_from (rising ss x) (sums t ss x) (upward_rising ss x (upward x o)) (total-sums t ss x e);
         ordered = λ x a. in_order x (rising_upward ss x (and_parts (rising ss x) (sums t ss x) a).0);
         totals = λ x a. sums-total t ss x (and_parts (rising ss x) (sums t ss x) a).1;
-      })
+      }

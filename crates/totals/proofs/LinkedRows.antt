@@ -22,10 +22,10 @@ use Rattle.rings.specs.Rings.{RingPlace, TiedSummand, RingsJudged, ring_below, t
 use Rattle.totals.specs.declared.terms.Terms.{Terms}
 use Rattle.totals.specs.declared.linked.LinkedSum.{LinkedSum}
 use Rattle.totals.specs.Cuts.{Columns, TotalOutcome}
-use Rattle.totals.specs.Sums.{sums, sum_refusal}
+use Rattle.totals.specs.Sums.{Kind, sums, sum_refusal}
 use Rattle.totals.specs.Linked.{linked_sums, linked_refusal, linked_scope, LinkedChecked}
 use Rattle.totals.specs.LinkedRows.{kept_links, linked_kind, linked_meaning}
-use Rattle.totals.specs.Terms.{row_summands, row_refusal, row_width, row_meaning, Kind, kind_scope, Holds}
+use Rattle.totals.specs.Terms.{row_summands, row_refusal, row_width, row_meaning, kind_scope, Holds}
 use Rattle.totals.proofs.LinkedJudging.{links_accepted, sum_accepted}
 use Rattle.totals.proofs.LinkedMeeting.{linked_meets}
 use Rattle.totals.proofs.Rows.{row_taken, held_means, width_means}

@@ -1,5 +1,5 @@
 -- Distances by an order of columns are closed, and a total over them is met as its rule wants.
-use Rattle.std.proofs.Common.{◌≡◌, ℕ, ◌<◌, Bool, true, false, cond, List, length, ℤ, pos, ◌+ℤ◌, ◌≤ℤ◌, Some, None, Option, sym, ap, ◌∙◌, ⊎_elim, arith}
+use Rattle.std.proofs.Common.{◌≡◌, ℕ, ◌<◌, Bool, true, false, cond, List, length, ℤ, pos, ◌+ℤ◌, ◌≤ℤ◌, Some, None, Option, sym, ap, ◌∙◌, subst, ⊎_elim, arith}
 use Rattle.std.proofs.lemmas.Int.{ints}
 use Rattle.std.proofs.lemmas.Bool.{cases_Bool, cases_eq, cond-true, cond-false}
 use Rattle.rules.specs.Plans.{value_at}
@@ -8,21 +8,12 @@ use Rattle.rings.proofs.Steps.{is_most}
 use Rattle.rings.proofs.Ways.{Ways, OnWays}
 use Rattle.totals.specs.Adding.{total}
 use Rattle.totals.specs.Cuts.{column_at}
-use Rattle.totals.specs.Orders.{order_distance}
+use Rattle.totals.specs.Orders.{order_distance, Preorder, InOrder, Totals, Follows}
 use Rattle.totals.proofs.Supporting.{Valued, Meets}
-
--- the order binds each column to itself, and through a third column
-pub record Preorder (R : ℕ → ℕ → Bool) : Type 0 where
-  pub self : (i : ℕ) → R i i ≡ true
-  pub through : (i m j : ℕ) → R i m ≡ true → R m j ≡ true → R i j ≡ true
 
 -- the ways of an order: 0 where it binds the two columns, else none
 abbrev pub order_way : (ℕ → ℕ → Bool) → ℕ → ℕ → Option ℤ
 order_way R i j = cond (R i j) (Some (pos 0)) None
-
--- the values x of k columns never break the order
-pub record InOrder (k : ℕ) (R : ℕ → ℕ → Bool) (x : ℕ → ℤ) : Type 0 where
-  pub below : (i j : ℕ) → i < k → j < k → R i j ≡ true → x j ≤ℤ x i
 
 module _ (R : ℕ → ℕ → Bool) where
   bound : (i j : ℕ) → R i j ≡ true → order_distance R i j ≡ pos 0
@@ -104,20 +95,6 @@ module _ (R : ℕ → ℕ → Bool) where
   ways_in_order : (k : ℕ) (x : ℕ → ℤ) → OnWays k (order_way R) x → InOrder k R x
   ways_in_order k x o = record { below = λ i j hi hj h. let l = o.way i j hi hj (pos 0) (way_bound i j h) in omega (arith, ints) }
 
--- A allows the plans in order whose column t is the total of the columns ss, and the order binds column t to no other column and no
--- two summands both ways
-pub record Totals (k : ℕ) (R : ℕ → ℕ → Bool) (t : ℕ) (ss : List ℕ) (A : List ℤ → Bool) : Type 0 where
-  pub order : Preorder R
-  pub there : t < k
-  pub column : (a : ℕ) → a < length ss → column_at ss a < k
-  pub apart : (a : ℕ) → a < length ss → column_at ss a ≡ t → ⊥
-  pub untied : (a b : ℕ) → a < length ss → b < length ss → (a ≡ b → ⊥) → R (column_at ss a) (column_at ss b) ≡ true → R (column_at ss b) (column_at ss a) ≡ true → ⊥
-  pub from : (j : ℕ) → j < k → R t j ≡ true → t ≡ j
-  pub to : (i : ℕ) → i < k → R i t ≡ true → i ≡ t
-  pub allows : (x : List ℤ) → InOrder k R (value_at x) → value_at x t ≡ total (length ss) (column_at ss) (value_at x) → A x ≡ true
-  pub ordered : (x : List ℤ) → A x ≡ true → InOrder k R (value_at x)
-  pub totals : (x : List ℤ) → A x ≡ true → value_at x t ≡ total (length ss) (column_at ss) (value_at x)
-
 module _ (k : ℕ) (R : ℕ → ℕ → Bool) (t : ℕ) (ss : List ℕ) (A : List ℤ → Bool) (T : Totals k R t ss A) where
   -- a change of column t alone keeps the order
   still_in_order : (x y : ℕ → ℤ) → ((i : ℕ) → i < k → (i ≡ t → ⊥) → y i ≡ x i) → InOrder k R x → InOrder k R y
@@ -151,3 +128,11 @@ module _ (k : ℕ) (R : ℕ → ℕ → Bool) (t : ℕ) (ss : List ℕ) (A : Lis
         obeys = λ x long v a. in_order_obeys R k (value_at x) v (T.ordered x a);
         totals = T.totals;
       }
+
+-- over distances that follow an order
+module _ (k t : ℕ) (ss : List ℕ) (A : List ℤ → Bool) (n : ℕ) (d : ℕ → ℕ → ℤ) (F : Follows k t ss A n d) where
+  pub follows_closed : (j : ℕ) → Closed j d
+  follows_closed j = subst (Closed j) (sym F.by_order) (order_closed F.order F.totals.order j)
+
+  pub follows_meets : Meets k d (order_way F.order) t ss A
+  follows_meets = subst (λ (e : ℕ → ℕ → ℤ). Meets k e (order_way F.order) t ss A) (sym F.by_order) (order_meets k F.order t ss A F.totals)

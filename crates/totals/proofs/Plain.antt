@@ -6,10 +6,9 @@ use Rattle.rules.specs.Plans.{value_at}
 use Rattle.differences.specs.Tables.{Closed}
 use Rattle.totals.specs.Cuts.{column_at, Columns}
 use Rattle.totals.specs.Sums.{sums, Distinct}
-use Rattle.totals.specs.Orders.{unlinked_distance}
-use Rattle.totals.proofs.Supporting.{Meets}
+use Rattle.totals.specs.Orders.{unlinked_distance, Preorder, Totals}
 use Rattle.totals.proofs.Adds.{sums-total, total-sums}
-use Rattle.totals.proofs.Ordered.{Preorder, order_way, order_closed, order_meets}
+use Rattle.totals.proofs.Ordered.{order_closed}
 
 self_alone : Preorder eqb
 self_alone =
@@ -31,10 +30,9 @@ summands_apart t ss h a b l lb e = h (suc a) (suc b) (omega arith) (omega arith)
 pub same_place : (ss : List ℕ) → Distinct ss → (a b : ℕ) → a < length ss → b < length ss → (a ≡ b → ⊥) → column_at ss a ≡ column_at ss b → ⊥
 same_place ss h a b la lb ne e = ⊎_elim (λ l. h a b l lb e) (λ l. h b a (omega arith) la (sym e)) (cases_lt a b)
 
-pub plain_meets : (k t : ℕ) (ss : List ℕ) → t < k → Columns k ss → Distinct (t ∷ ss) → Meets k unlinked_distance (order_way eqb) t ss (sums t ss)
-plain_meets k t ss ht there distinct =
-    order_meets k eqb t ss (sums t ss)
-    (record {
+pub plain_totals : (k t : ℕ) (ss : List ℕ) → t < k → Columns k ss → Distinct (t ∷ ss) → Totals k eqb t ss (sums t ss)
+plain_totals k t ss ht there distinct =
+    record {
       order = self_alone;
       there = ht;
       column = there.there;
@@ -45,4 +43,4 @@ plain_meets k t ss ht there distinct =
       allows = λ x o e. total-sums t ss x e;
       ordered = λ x a. record { below = λ i j hi hj h. let e = ap (value_at x) (eqb-true i j h) in omega (arith, ints) };
       totals = sums-total t ss;
-    })
+    }

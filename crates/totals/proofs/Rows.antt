@@ -13,8 +13,8 @@ use Rattle.rules.proofs.Failing.{some_none}
 use Rattle.rules.proofs.Failing as failing
 use Rattle.rules.proofs.Setting.{none_if_ok, set_if_none, counted_if, fresh_narrowed, taken_by, set_narrowed}
 use Rattle.totals.specs.declared.terms.Terms.{Terms}
-use Rattle.totals.specs.Sums.{sum_refusal}
-use Rattle.totals.specs.Terms.{row_summands, row_refusal, row_width, width_if, row_meaning, Kind, kind_scope, Holds}
+use Rattle.totals.specs.Sums.{Kind, sum_refusal}
+use Rattle.totals.specs.Terms.{row_summands, row_refusal, row_width, width_if, row_meaning, kind_scope, Holds}
 use Rattle.totals.specs.Cuts.{Columns, TotalOutcome}
 use Rattle.totals.proofs.Supporting.{Meets, total_narrowed}
 use Rattle.totals.proofs.Judging.{Taken, sum_taken}
@@ -56,8 +56,11 @@ by_count row true e h = h
 by_count row false e h = absurd (some_none h)
 
 -- what is known of a row that is a sum
+row_none : (row : Terms) → row_refusal row ≡ None → sum_refusal row.columns row.total (row_summands row) ≡ None
+row_none row e = by_count row (leb row.count 31) refl e
+
 pub row_taken : (row : Terms) → row_refusal row ≡ None → Taken row.columns row.total (row_summands row)
-row_taken row e = sum_taken _ _ _ (by_count row (leb row.count 31) refl e)
+row_taken row e = sum_taken _ _ _ (row_none row e)
 
 pub row_columns : (kind : Kind) (row : Terms) → Counted (row_meaning kind row).scope.width
 row_columns kind row =
@@ -76,6 +79,7 @@ columns_of e c = record { there = λ a l. omega (arith, c.there a l) }
 -- what narrow knows of a row that is a sum, and of windows that were not refused
 pub record Given (row : Terms) (vs : List Window) : Type 0 where
   pub sound : is_ok (answer (row_refusal row)) ≡ true
+  pub none : sum_refusal row.columns row.total (row_summands row) ≡ None
   pub taken : Taken row.columns row.total (row_summands row)
   pub ok : window_refusal row.columns vs ≡ None
   pub lawful : all_lawful vs ≡ true
@@ -92,7 +96,7 @@ module _ (kind : Kind) (row : Terms) (n : ℕ) (vs : List Window) (width : n ≡
   row_given e =
       let accepted = taken_by (row_refusal row) (tight_rule scope true) n vs (width ∙ width_means kind row) ok e in
       let given = failing.taken row.columns vs accepted in
-      record { sound = e; taken = row_taken row (none_if_ok _ e); ok = accepted; lawful = given.0; long = given.1 }
+      record { sound = e; none = row_none row (none_if_ok _ e); taken = row_taken row (none_if_ok _ e); ok = accepted; lawful = given.0; long = given.1 }
 
   -- the outcome of the trim by its total, over distances with which the row means its kind of sum
   pub row_narrowed : (G : Given row vs) (d : ℕ → ℕ → ℤ) (w : ℕ → ℕ → Option ℤ) → Meets row.columns d w row.total (row_summands row) (kind row.total (row_summands row))

@@ -4,7 +4,8 @@ use Rattle.rules.specs.Meaning.{Meaning}
 use Rattle.differences.specs.declared.link.Link.{Link}
 use Rattle.totals.specs.declared.linked.LinkedSum.{LinkedSum}
 use Rattle.totals.specs.Linked.{linked_sums}
-use Rattle.totals.specs.Terms.{row_meaning, Kind}
+use Rattle.totals.specs.Sums.{Kind}
+use Rattle.totals.specs.Terms.{row_meaning}
 
 -- the links that were set
 abbrev pub kept_links : LinkedSum → List Link

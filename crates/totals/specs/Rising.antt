@@ -1,7 +1,7 @@
 -- Sums whose summands never fall.
 use Rattle.std.specs.Prelude.{ℕ, Bool, true, ◌&&◌, List, [], ◌∷◌, ℤ, int_le}
 use Rattle.rules.specs.Plans.{value_at}
-use Rattle.totals.specs.Sums.{sums}
+use Rattle.totals.specs.Sums.{Kind, sums}
 
 -- from v on, the columns never fall
 abbrev pub rising_from : ℤ → List ℕ → List ℤ → Bool
@@ -14,5 +14,5 @@ rising [] x = true
 rising (s ∷ ss) x = rising_from (value_at x s) ss x
 
 -- the summands never fall, and the total equals them added up
-abbrev pub rising_sum : ℕ → List ℕ → List ℤ → Bool
+abbrev pub rising_sum : Kind
 rising_sum t ss x = rising ss x && sums t ss x

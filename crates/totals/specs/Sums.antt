@@ -8,13 +8,17 @@ use Rattle.rules.specs.declared.fault.Fault.TheVariants.{ColumnCount, NoColumn, 
 use Rattle.rules.specs.Plans.{value_at}
 use Rattle.rules.specs.Refusals.{first_failing, First, unless, at_first, counted, Counted}
 
+-- which plans a kind of sum allows, by its total and its summands
+abbrev pub Kind : Type 0
+Kind = ℕ → List ℕ → List ℤ → Bool
+
 -- the values of the columns added up
 abbrev pub added_up : List ℕ → List ℤ → ℤ
 added_up [] x = pos 0
 added_up (s ∷ ss) x = value_at x s +ℤ added_up ss x
 
 -- the total equals the summands added up
-abbrev pub sums : ℕ → List ℕ → List ℤ → Bool
+abbrev pub sums : Kind
 sums t ss x = int_eq (value_at x t) (added_up ss x)
 
 -- the column is there

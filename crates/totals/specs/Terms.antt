@@ -1,11 +1,11 @@
 -- Rows that hold a total and summands, and what they mean.
-use Rattle.std.specs.Prelude.{◌≡◌, ℕ, Bool, true, List, take, ℤ, Some, None, Option, nat_le}
+use Rattle.std.specs.Prelude.{◌≡◌, ℕ, true, List, take, Some, None, Option, nat_le}
 use Rattle.rules.specs.declared.fault.Fault.{Fault}
 use Rattle.rules.specs.declared.fault.Fault.TheVariants.{ListLength}
 use Rattle.rules.specs.Refusals.{unless}
 use Rattle.rules.specs.Meaning.{Scope, Meaning, tight_rule, meaning_if}
 use Rattle.totals.specs.declared.terms.Terms.{Terms}
-use Rattle.totals.specs.Sums.{sum_refusal}
+use Rattle.totals.specs.Sums.{Kind, sum_refusal}
 
 -- the summands of a row
 abbrev pub row_summands : Terms → List ℕ
@@ -14,10 +14,6 @@ row_summands row = take row.count row.summands
 -- the fault of a row that is no sum
 abbrev pub row_refusal : Terms → Option Fault
 row_refusal row = unless (nat_le row.count 31) ListLength (sum_refusal row.columns row.total (row_summands row))
-
--- which plans a kind of sum allows, by its total and its summands
-abbrev pub Kind : Type 0
-Kind = ℕ → List ℕ → List ℤ → Bool
 
 abbrev pub kind_scope : Kind → ℕ → ℕ → List ℕ → Scope
 kind_scope kind k t ss = record { width = k; allows = kind t ss }

@@ -1,6 +1,6 @@
 //! The distances of columns that never fall in a given order.
 
-ghost use Rattle.std.specs.Prelude.{◌≡◌, ◌≤◌, length};
+ghost use Rattle.std.specs.Prelude.{◌≡◌, ◌≤◌};
 ghost use Rattle.totals.specs.Cuts.{Columns};
 ghost use Rattle.totals.specs.Sums.{Distinct};
 ghost use Rattle.totals.specs.Orders.{Placed, place_of, chain_distance};
@@ -26,7 +26,6 @@ impl Chain {
         requires some { 1 ≤ columns }
         requires few { columns ≤ 32 }
         requires there { Columns columns summands.now }
-        requires short { length summands.now ≤ 31 }
         requires distinct { Distinct summands.now }
         ensures width { result.columns ≡ columns }
         ensures placed { Placed summands.now result.places }
