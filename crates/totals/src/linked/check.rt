@@ -1,8 +1,8 @@
 //! What is judged of a total, its summands and links before a linked sum is set.
 
-ghost use Rattle.std.specs.Prelude.{◌≡◌, ◌<◌};
+ghost use Rattle.std.specs.Prelude.{◌≡◌, ◌<◌, length};
 ghost use Rattle.totals.specs.Cuts.{Columns};
-ghost use Rattle.totals.specs.Linked.{other_columns, first_absent, first_repeated, linked_refusal, LinkedJudged, LinkedChecked};
+ghost use Rattle.totals.specs.Linked.{other_columns, link_entry, first_absent, first_repeated, linked_refusal, LinkedJudged, LinkedChecked};
 
 use crate::check::{There, first_again};
 use crate::reaching::MOST_SUMMANDS;
@@ -26,34 +26,51 @@ impl Test<Link> for OtherColumns {
     }
 }
 
-/// The first entry that names a column that is not there.
-fn first_absent(columns: usize, total: usize, summands: &[usize], links: &[Link]) -> Option<usize>
-    ensures { result ≡ first_absent columns total summands.now links.now }
-{
-    if total >= columns {
-        return Some(0);
-    }
-    if let Some(at) = first_failing(&There { columns }, summands) {
-        return Some(at + 1);
-    }
-    match first_failing(&Present { columns }, links) {
-        Some(at) => Some(1 + summands.len() + at),
-        None => None,
-    }
+/// The entries of a sum with links: the total, the summands, then the links.
+#[derive(Clone, Copy)]
+struct Entries<'a> {
+    columns: usize,
+    total: usize,
+    summands: &'a [usize],
+    links: &'a [Link],
 }
 
-/// The first entry that names a column again.
-fn first_repeated(total: usize, summands: &[usize], links: &[Link]) -> Option<usize>
-    requires total { total < 32 }
-    requires there { Columns 32 summands.now }
-    ensures { result ≡ first_repeated total summands.now links.now }
-{
-    if let Some(at) = first_again(total, summands) {
-        return Some(at + 1);
+impl<'a> Entries<'a> {
+    /// The entry of link `at`.
+    fn link_entry(&self, at: usize) -> usize
+        requires { at < length self.now.links.now }
+        ensures { result ≡ link_entry self.now.summands.now at }
+    {
+        1 + self.summands.len() + at
     }
-    match first_failing(&OtherColumns { total }, links) {
-        Some(at) => Some(1 + summands.len() + at),
-        None => None,
+
+    /// The first entry that names a column that is not there.
+    fn first_absent(&self) -> Option<usize>
+        ensures { result ≡ first_absent self.now.columns self.now.total self.now.summands.now self.now.links.now }
+    {
+        let columns = self.columns;
+        if self.total >= columns {
+            return Some(0);
+        }
+        if let Some(at) = first_failing(&There { columns }, self.summands) {
+            return Some(at + 1);
+        }
+        let at = first_failing(&Present { columns }, self.links)?;
+        Some(self.link_entry(at))
+    }
+
+    /// The first entry that names a column again.
+    fn first_repeated(&self) -> Option<usize>
+        requires total { self.now.total < 32 }
+        requires there { Columns 32 self.now.summands.now }
+        ensures { result ≡ first_repeated self.now.total self.now.summands.now self.now.links.now }
+    {
+        let total = self.total;
+        if let Some(at) = first_again(total, self.summands) {
+            return Some(at + 1);
+        }
+        let at = first_failing(&OtherColumns { total }, self.links)?;
+        Some(self.link_entry(at))
     }
 }
 
@@ -73,17 +90,23 @@ pub fn check_linked(
     if columns < 1 || columns > MOST_COLUMNS {
         return Err(Fault::ColumnCount);
     }
-    if let Some(at) = first_absent(columns, total, summands, links) {
+    let entries = Entries {
+        columns,
+        total,
+        summands,
+        links,
+    };
+    if let Some(at) = entries.first_absent() {
         return Err(Fault::NoColumn(at));
     }
     if summands.len() < 1 || summands.len() > MOST_SUMMANDS || links.len() > MOST_LINKS {
         return Err(Fault::ListLength);
     }
-    if let Some(at) = first_repeated(total, summands, links) {
+    if let Some(at) = entries.first_repeated() {
         return Err(Fault::ColumnTwice(at));
     }
     if let Some(at) = first_failing(&Bounded, links) {
-        return Err(Fault::OutOfRange(1 + summands.len() + at));
+        return Err(Fault::OutOfRange(entries.link_entry(at)));
     }
     check_rings(columns, links, summands)
 }

@@ -1,4 +1,5 @@
-use Rattle.std.proofs.Common.{Some, None, sym, rules}
+use Rattle.std.proofs.Common.{Some, None, sym, ap, ◌∙◌}
+use Rattle.rules.specs.declared.fault.Fault.TheVariants.{OutOfRange}
 use Rattle.differences.specs.Links.{bounded}
 use Rattle.rules.specs.Refusals.{Counted}
 use Rattle.totals.proofs.LinkedJudging.{linked_judged, first_within, total_there, summands_there, by_width, by_absent, by_length, by_repeated, by_bounds, checked_entries, checked_rings}
@@ -47,10 +48,8 @@ returns-in-Some-first_repeated c =
       law = linked_judged _ _ _ _;
     }
 
-pub overflow_add-result-in-Some-first_failing : goal.overflow_add-result-in-Some-first_failing
-overflow_add-result-in-Some-first_failing c =
-    let low = first_within bounded c.args.links.now c.in-Some-first_failing.at (sym c.in-Some-first_failing.ensures) in
-    search rules
+pub link_entry-requires : goal.link_entry-requires
+link_entry-requires c = first_within bounded c.args.links.now c.in-Some-first_failing.at (sym c.in-Some-first_failing.ensures)
 
 pub returns-in-Some-first_failing : goal.returns-in-Some-first_failing
 returns-in-Some-first_failing c =
@@ -60,7 +59,8 @@ returns-in-Some-first_failing c =
           (record { some = c.if-summands-lt1.false; few = c.if-summands-gt-MOST_SUMMANDS.false; links = c.if-links-gt-MOST_LINKS.false })
           (sym c.in_default-first_repeated.ensures)
           (Some c.in-Some-first_failing.at)
-          (sym c.in-Some-first_failing.ensures));
+          (sym c.in-Some-first_failing.ensures)
+          ∙ ap (λ n. Some (OutOfRange n)) (sym c.link_entry.ensures));
       law = linked_judged _ _ _ _;
     }
 
