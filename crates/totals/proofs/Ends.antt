@@ -1,5 +1,5 @@
 -- The numbers that the search for an end works on: the total it reaches is that of plans with one column fixed.
-use Rattle.std.proofs.Common.{◌≡◌, ℕ, zero, suc, ◌<◌, ◌≤◌, true, List, length, take, ℤ, pos, ◌+ℤ◌, ◌-ℤ◌, ◌≤ℤ◌, sym, refl, ap, ◌∙◌, subst, arith, w32, w64, to_z, of_z}
+use Rattle.std.proofs.Common.{◌≡◌, ℕ, zero, suc, ◌<◌, ◌≤◌, true, List, length, take, ℤ, pos, ◌-ℤ◌, ◌≤ℤ◌, sym, refl, ap, ◌∙◌, subst, arith, w32, w64, to_z, of_z}
 use Rattle.std.specs.Int.{int_max, int_min}
 use Rattle.std.proofs.lemmas.Int.{ints, clamps}
 use Rattle.std.proofs.lemmas.List.{get_or-take, length-take-le}
@@ -8,10 +8,14 @@ use Rattle.rules.specs.Plans.{all_lawful, window_at}
 use Rattle.rules.proofs.Windows.{Ends, lawful_at, lawful_ends}
 use Rattle.differences.specs.Tables.{Closed}
 use Rattle.differences.specs.Ends.{first_at, last_at}
-use Rattle.totals.specs.Adding.{sum_to, total}
+use Rattle.totals.specs.Adding.{sum_to}
 use Rattle.totals.specs.declared.reaching.Limit.{Limit}
 use Rattle.totals.specs.Reaching.{limit_at, limited, reach_to, reach_of, Least, Value, Reachable, Moderate}
-use Rattle.totals.specs.Cuts.{column_at, Columns, least, most, greatest_with, least_with, FirstLeft, LastLeft, CutAt}
+use Rattle.totals.specs.Cuts.{column_at, Columns, greatest_with, least_with, FirstLeft, LastLeft, CutAt}
+
+-- what the window of a column is between
+pub ends_at : (ws : List Window) (i : ℕ) → all_lawful ws ≡ true → i < length ws → Ends (window_at ws i)
+ends_at ws i lawful here = lawful_ends (window_at ws i) (lawful_at ws i lawful here)
 
 -- the total of n summands that are each at most g
 reach_is : (ls : List Limit) (v : ℤ) (g : ℕ → ℤ) (n : ℕ) → ((a : ℕ) → a < n → limited (limit_at ls a) v ≡ g a) → reach_to ls v n ≡ sum_to n g
@@ -63,14 +67,11 @@ module _ (d : ℕ → ℕ → ℤ) (ws : List Window) (ss : List ℕ) (j : ℕ) 
 
 module _ (d : ℕ → ℕ → ℤ) (ws : List Window) (ss : List ℕ) (j : ℕ) (ls : List Limit)
     (closed : Closed (length ws) d) (lawful : all_lawful ws ≡ true) (there : Columns (length ws) ss) (here : j < length ws) where
-  ends_of : (i : ℕ) → i < length ws → Ends (window_at ws i)
-  ends_of i h = lawful_ends (window_at ws i) (lawful_at ws i lawful h)
-
   module _ (U : Upward d ws ss j ls) where
     pub up_reachable : Reachable ls
     up_reachable =
         record {
-          top = λ a h. let l : a < length ss = omega (arith, U.long) in let e = ends_of (column_at ss a) (there.there a l) in let q = U.top a l in (omega (arith, ints, e.low, e.order, e.high), omega (arith, ints, e.high));
+          top = λ a h. let l : a < length ss = omega (arith, U.long) in let e = ends_at ws (column_at ss a) lawful (there.there a l) in let q = U.top a l in (omega (arith, ints, e.low, e.order, e.high), omega (arith, ints, e.high));
           way = λ a h. let l : a < length ss = omega (arith, U.long) in let c = closed.near j (column_at ss a) here (there.there a l) in let q = U.way a l in (omega (arith, ints), omega (arith, ints));
         }
 
@@ -97,7 +98,7 @@ module _ (d : ℕ → ℕ → ℤ) (ws : List Window) (ss : List ℕ) (j : ℕ) 
     pub down_reachable : Reachable ls
     down_reachable =
         record {
-          top = λ a h. let l : a < length ss = omega (arith, U.long) in let e = ends_of (column_at ss a) (there.there a l) in let q = U.top a l in (omega (arith, ints, e.low, e.order, e.high), omega (arith, ints, e.low));
+          top = λ a h. let l : a < length ss = omega (arith, U.long) in let e = ends_at ws (column_at ss a) lawful (there.there a l) in let q = U.top a l in (omega (arith, ints, e.low, e.order, e.high), omega (arith, ints, e.low));
           way = λ a h. let l : a < length ss = omega (arith, U.long) in let c = closed.near (column_at ss a) j (there.there a l) here in let q = U.way a l in (omega (arith, ints), omega (arith, ints));
         }
 

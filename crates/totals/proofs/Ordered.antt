@@ -1,13 +1,11 @@
 -- Distances by an order of columns are closed, and a total over them is met as its rule wants.
-use Rattle.std.proofs.Common.{◌≡◌, ℕ, ◌<◌, Bool, true, false, cond, List, length, ℤ, pos, ◌+ℤ◌, ◌≤ℤ◌, Some, None, Option, sym, ap, ◌∙◌, subst, ⊎_elim, arith}
+use Rattle.std.proofs.Common.{◌≡◌, ℕ, ◌<◌, Bool, true, false, cond, List, ℤ, pos, ◌+ℤ◌, ◌≤ℤ◌, Some, None, Option, sym, ap, ◌∙◌, subst, ⊎_elim, arith}
 use Rattle.std.proofs.lemmas.Int.{ints}
 use Rattle.std.proofs.lemmas.Bool.{cases_Bool, cases_eq, cond-true, cond-false}
 use Rattle.rules.specs.Plans.{value_at}
 use Rattle.differences.specs.Tables.{Near, Obeys, Closed}
 use Rattle.rings.proofs.Steps.{is_most}
 use Rattle.rings.proofs.Ways.{Ways, OnWays}
-use Rattle.totals.specs.Adding.{total}
-use Rattle.totals.specs.Cuts.{column_at}
 use Rattle.totals.specs.Orders.{order_distance, Preorder, InOrder, Totals, Follows}
 use Rattle.totals.proofs.Supporting.{Valued, Meets}
 

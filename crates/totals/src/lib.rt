@@ -6,7 +6,7 @@ mod chain;
 pub mod check;
 mod cutting;
 pub mod linked;
-pub mod order;
+mod order;
 mod reaching;
 pub mod rising;
 pub mod sum;

@@ -1,9 +1,7 @@
 use Rattle.std.proofs.Common.{take, length, rules, arith}
 use Rattle.std.proofs.lemmas.Int.{ints}
-use Rattle.rules.specs.Plans.{window_at}
-use Rattle.rules.proofs.Windows.{Ends, lawful_at, lawful_ends}
 use Rattle.differences.specs.Ends.{last_at}
-use Rattle.totals.proofs.Ends.{Upward, upward_row, up_reachable, up_most, first_left}
+use Rattle.totals.proofs.Ends.{ends_at, Upward, upward_row, up_reachable, up_most, first_left}
 use Rattle.totals.proofs.cutting.Settled.first_left.Goals as goal
 
 pub invariant_of-least_reaching : goal.invariant_of-least_reaching
@@ -19,7 +17,7 @@ least_reaching-requires g c =
     let s = c.args.self.now in
     let j = c.args.j in
     let d = g.D.Distance.distance s.distances.now in
-    let e : Ends (window_at s.windows.now j) = lawful_ends (window_at s.windows.now j) (lawful_at s.windows.now j s.lawful c.requires.here) in
+    let e = ends_at s.windows.now j s.lawful c.requires.here in
     let h = c.ranges.low in
     let up : Upward d s.windows.now s.summands.now j (take (length s.summands.now) c.limits-row.result) =
     upward_row d _ _ _ _ c.limits-row.ensures.long s.few (λ a l. let p = c.limits-row.ensures.each a l in search rules) in
@@ -35,7 +33,7 @@ returns g c =
     let s = c.args.self.now in
     let j = c.args.j in
     let d = g.D.Distance.distance s.distances.now in
-    let e : Ends (window_at s.windows.now j) = lawful_ends (window_at s.windows.now j) (lawful_at s.windows.now j s.lawful c.requires.here) in
+    let e = ends_at s.windows.now j s.lawful c.requires.here in
     let h = c.ranges.low in
     let ok = c.least_reaching.type_inv in
     let up : Upward d s.windows.now s.summands.now j (take (length s.summands.now) c.limits-row.result) =

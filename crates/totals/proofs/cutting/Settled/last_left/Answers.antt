@@ -1,9 +1,7 @@
 use Rattle.std.proofs.Common.{take, length, rules, arith}
 use Rattle.std.proofs.lemmas.Int.{ints}
-use Rattle.rules.specs.Plans.{window_at}
-use Rattle.rules.proofs.Windows.{Ends, lawful_at, lawful_ends}
 use Rattle.differences.specs.Ends.{first_at}
-use Rattle.totals.proofs.Ends.{Downward, downward_row, down_reachable, down_most, last_left}
+use Rattle.totals.proofs.Ends.{ends_at, Downward, downward_row, down_reachable, down_most, last_left}
 use Rattle.totals.proofs.cutting.Settled.last_left.Goals as goal
 
 pub invariant_of-least_reaching : goal.invariant_of-least_reaching
@@ -17,13 +15,13 @@ invariant_of-least_reaching g c =
 pub overflow_sub-window : goal.overflow_sub-window
 overflow_sub-window g c =
     let ws = c.args.self.now.windows.now in
-    let e : Ends (window_at ws c.args.j) = lawful_ends (window_at ws c.args.j) (lawful_at ws c.args.j c.args.self.now.lawful c.requires.here) in
+    let e = ends_at ws c.args.j c.args.self.now.lawful c.requires.here in
     omega (arith, ints)
 
 pub overflow_sub-window-2 : goal.overflow_sub-window-2
 overflow_sub-window-2 g c =
     let ws = c.args.self.now.windows.now in
-    let e : Ends (window_at ws c.args.j) = lawful_ends (window_at ws c.args.j) (lawful_at ws c.args.j c.args.self.now.lawful c.requires.here) in
+    let e = ends_at ws c.args.j c.args.self.now.lawful c.requires.here in
     omega (arith, ints)
 
 pub least_reaching-requires : goal.least_reaching-requires
@@ -31,7 +29,7 @@ least_reaching-requires g c =
     let s = c.args.self.now in
     let j = c.args.j in
     let d = g.D.Distance.distance s.distances.now in
-    let e : Ends (window_at s.windows.now j) = lawful_ends (window_at s.windows.now j) (lawful_at s.windows.now j s.lawful c.requires.here) in
+    let e = ends_at s.windows.now j s.lawful c.requires.here in
     let h = c.ranges.high in
     let m = c.requires.moderate in
     let down : Downward d s.windows.now s.summands.now j (take (length s.summands.now) c.limits-row.result) =
@@ -46,7 +44,7 @@ least_reaching-requires g c =
 pub overflow_sub-result : goal.overflow_sub-result
 overflow_sub-result g c =
     let ws = c.args.self.now.windows.now in
-    let e : Ends (window_at ws c.args.j) = lawful_ends (window_at ws c.args.j) (lawful_at ws c.args.j c.args.self.now.lawful c.requires.here) in
+    let e = ends_at ws c.args.j c.args.self.now.lawful c.requires.here in
     let lo = c.least_reaching.ensures.least.late in
     let hi = c.least_reaching.ensures.upto in
     omega (arith, ints)
@@ -56,7 +54,7 @@ returns g c =
     let s = c.args.self.now in
     let j = c.args.j in
     let d = g.D.Distance.distance s.distances.now in
-    let e : Ends (window_at s.windows.now j) = lawful_ends (window_at s.windows.now j) (lawful_at s.windows.now j s.lawful c.requires.here) in
+    let e = ends_at s.windows.now j s.lawful c.requires.here in
     let h = c.ranges.high in
     let m = c.requires.moderate in
     let lo = c.least_reaching.ensures.least.late in

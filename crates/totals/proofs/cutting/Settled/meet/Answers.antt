@@ -1,6 +1,6 @@
 use Rattle.std.proofs.Common.{◌≤ℤ◌, refl, arith}
 use Rattle.std.proofs.lemmas.Int.{ints}
-use Rattle.totals.proofs.Meeting.{cutting_none, cutting_more, cutting_all, most_at_last, least_at_first}
+use Rattle.totals.proofs.Meeting.{cutting_more, cutting_all, most_at_last, least_at_first}
 use Rattle.totals.proofs.cutting.Settled.meet.Goals as goal
 
 pub cut_at-requires : goal.cut_at-requires

@@ -1,10 +1,9 @@
 use Rattle.std.proofs.Common.{arith, w64}
 use Rattle.std.proofs.lemmas.Int.{ints, to_z-of_z}
 use Rattle.rules.specs.Plans.{window_at}
-use Rattle.rules.proofs.Windows.{Ends, lawful_at, lawful_ends}
 use Rattle.totals.specs.Reaching.{Value}
 use Rattle.totals.specs.Cuts.{least, most}
-use Rattle.totals.proofs.Ends.{larger_is, smaller_is, range_values, taken_as, end_as}
+use Rattle.totals.proofs.Ends.{ends_at, larger_is, smaller_is, range_values, taken_as, end_as}
 use Rattle.totals.proofs.cutting.Settled.range.Goals as goal
 
 pub returns : goal.returns
@@ -12,7 +11,7 @@ returns g c =
     let s = c.args.self.now in
     let ws = s.windows.now in
     let w = window_at ws s.total in
-    let e : Ends w = lawful_ends w (lawful_at ws s.total s.lawful s.here) in
+    let e = ends_at ws s.total s.lawful s.here in
     let m = c.sums-least.ensures.moderate in
     let first : Value w.first = (e.low, omega (arith, ints, e.order, e.high)) in
     let last : Value w.last = (omega (arith, ints, e.low, e.order), e.high) in

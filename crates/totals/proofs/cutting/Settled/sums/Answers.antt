@@ -1,8 +1,7 @@
 use Rattle.std.proofs.Common.{◌≡◌, length, arith}
 use Rattle.std.proofs.lemmas.Int.{ints}
-use Rattle.rules.specs.Plans.{window_at}
-use Rattle.rules.proofs.Windows.{Ends, lawful_at, lawful_ends}
 use Rattle.totals.specs.Cuts.{column_at}
+use Rattle.totals.proofs.Ends.{ends_at}
 use Rattle.totals.proofs.Summing.{summing_more, summing_all, summed}
 use Rattle.totals.proofs.cutting.Settled.sums.Goals as goal
 
@@ -10,8 +9,7 @@ pub loop-column-preserved : goal.loop-column-preserved
 loop-column-preserved g c =
     let s = c.args.self.now in
     let i = column_at s.summands.now c.loop-column.column-index in
-    let w = window_at s.windows.now i in
-    let e : Ends w = lawful_ends w (lawful_at s.windows.now i s.lawful (s.there.there c.loop-column.column-index c.loop-column-test.true)) in
+    let e = ends_at s.windows.now i s.lawful (s.there.there c.loop-column.column-index c.loop-column-test.true) in
     let few = s.few in (
       summing_more _ _ _ c.from-least.result _ c.loop-column.invariant.0 (omega (arith, ints)) (omega (arith, ints), omega (arith, ints)) (omega (arith, ints)),
       summing_more _ _ _ c.from-most.result _ c.loop-column.invariant.1 (omega (arith, ints)) (omega (arith, ints), omega (arith, ints)) (omega (arith, ints)),
