@@ -5,11 +5,12 @@ use Rattle.std.specs.List.{AllWithin}
 use Rattle.std.specs.List.{position, position_from}
 use Rattle.std.proofs.lemmas.Iterator.Adapters.{position_from-zero}
 use Rattle.std.proofs.lemmas.Bool.{and_from, and_parts, eqb-true, eqb-false, eq-eqb}
+use Rattle.std.proofs.lemmas.Bool.Decides.{nat_tests}
 use Rattle.rules.specs.declared.window.Window.{Window}
 use Rattle.rules.specs.declared.fault.Fault.{Fault}
 use Rattle.rules.specs.declared.fault.Fault.TheVariants.{UnlawfulWindow, WindowCount}
 use Rattle.rules.specs.Plans.{lawful, all_lawful}
-use Rattle.rules.specs.Refusals.{first_failing, First, Finds, unless, at_first, answer, window_refusal, Judged, unlawful, wrong_count, accepted}
+use Rattle.rules.specs.Refusals.{first_failing, First, Finds, unless, at_first, answer, window_refusal, counted, Counted, Judged, unlawful, wrong_count, accepted}
 
 -- something is not nothing
 pub some_none : {X : Type 0} {x : X} → ◌≡◌ {A = Option X} (Some x) None → ⊥
@@ -114,3 +115,11 @@ answer_err (Some g) f e = cc
 pub answer_ok : (o : Option Fault) → answer o ≡ Ok tt → o ≡ None
 answer_ok None e = refl
 answer_ok (Some g) e = cc
+
+-- a number of columns that no board has fails the test
+uncounted_by : (k : ℕ) (b : Bool) → counted k ≡ b → (Counted k → ⊥) → b ≡ false
+uncounted_by k true e none = absurd (none (grind (arith, nat_tests), grind (arith, nat_tests)))
+uncounted_by k false e none = refl
+
+pub uncounted : (k : ℕ) → (Counted k → ⊥) → counted k ≡ false
+uncounted k none = uncounted_by k (counted k) refl none

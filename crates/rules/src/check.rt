@@ -1,6 +1,6 @@
 //! What a call judges before it does anything.
 
-ghost use Rattle.std.specs.Prelude.{◌≡◌, None};
+ghost use Rattle.std.specs.Prelude.{◌≡◌, None, MatchResult};
 ghost use Rattle.rules.specs.Plans.{lawful};
 ghost use Rattle.rules.specs.declared.fault.Fault.TheVariants.{ColumnCount};
 ghost use Rattle.rules.specs.Refusals.{first_failing, window_refusal, unless, counted, Counted, answer, Judged};
@@ -10,7 +10,8 @@ use crate::window::{MOST_COLUMNS, Window};
 
 /// Refuses a number of columns outside 1 to 32 (1).
 pub fn check_columns(columns: usize) -> Result<(), Fault>
-    ensures { result ≡ answer (unless (counted columns) ColumnCount None) }
+    ensures value { result ≡ answer (unless (counted columns) ColumnCount None) }
+    ensures law { MatchResult result (λ _. Counted columns) (λ f. (Counted columns → ⊥) × (f ≡ ColumnCount)) }
 {
     if (1..=MOST_COLUMNS).contains(&columns) {
         Ok(())

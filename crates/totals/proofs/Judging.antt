@@ -6,7 +6,7 @@ use Rattle.std.proofs.lemmas.Bool.Decides.{nat_tests}
 use Rattle.rules.specs.declared.fault.Fault.{Fault}
 use Rattle.rules.specs.declared.fault.Fault.TheVariants.{ColumnCount, NoColumn, ListLength, ColumnTwice}
 use Rattle.rules.specs.Refusals.{first_failing, Finds, unless, at_first, counted, Counted}
-use Rattle.rules.proofs.Failing.{finds_first, some_none}
+use Rattle.rules.proofs.Failing.{finds_first, some_none, uncounted}
 use Rattle.totals.specs.Sums.{there, first_again, some_few, sum_refusal, AllThere, Distinct, SumJudged, no_width, absent, wrong_length, twice, accepted}
 use Rattle.totals.specs.Cuts.{Columns}
 use Rattle.totals.proofs.Again.{finds_again, found_again}
@@ -82,9 +82,9 @@ module _ (k t : ℕ) (ss : List ℕ) where
   sum_taken e = judged_taken (sum_refusal k t ss) e sum_judged
 
   -- the refusal, test by test
-  pub no_columns : (k < 1) ⊎ ((1 ≤ k) × (32 < k)) → sum_refusal k t ss ≡ Some ColumnCount
+  pub no_columns : (Counted k → ⊥) → sum_refusal k t ss ≡ Some ColumnCount
   unfolding sum_refusal
-  no_columns h = let e : counted k ≡ false = grind (arith, nat_tests) in rw e
+  no_columns none = rw (uncounted k none)
 
   columns_next : Counted k → sum_refusal k t ss ≡ from_columns
   unfolding sum_refusal

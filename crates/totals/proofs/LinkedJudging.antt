@@ -7,7 +7,7 @@ use Rattle.std.proofs.lemmas.Bool.Decides.{nat_tests}
 use Rattle.rules.specs.declared.fault.Fault.{Fault}
 use Rattle.rules.specs.declared.fault.Fault.TheVariants.{ColumnCount, NoColumn, ListLength, ColumnTwice, OutOfRange}
 use Rattle.rules.specs.Refusals.{first_failing, Finds, unless, at_first, counted, Counted}
-use Rattle.rules.proofs.Failing.{finds_first, none_found, some_none}
+use Rattle.rules.proofs.Failing.{finds_first, none_found, some_none, uncounted}
 use Rattle.differences.specs.declared.link.Link.{Link}
 use Rattle.differences.specs.Links.{links_refusal, present, two_columns, bounded, All}
 use Rattle.rings.specs.Rings.{RingsAnswer, RingsChecked}
@@ -143,9 +143,9 @@ module _ (k t : ℕ) (ss : List ℕ) (ls : List Link) where
   summands_there w e = record { there = λ a l. let h = ltb-true (column_at ss a) k (entries_at e (suc a) 0 (omega arith) (omega arith)) in omega arith }
 
   -- the refusal, test by test
-  pub by_width : (k < 1) ⊎ ((1 ≤ k) × (32 < k)) → linked_refusal k t ss ls ≡ Some ColumnCount
+  pub by_width : (Counted k → ⊥) → linked_refusal k t ss ls ≡ Some ColumnCount
   unfolding linked_refusal
-  by_width h = let e : counted k ≡ false = grind (arith, nat_tests) in ap (λ b. unless b ColumnCount (at_first NoColumn (first_absent k t ss ls) from_length)) e
+  by_width none = ap (λ b. unless b ColumnCount (at_first NoColumn (first_absent k t ss ls) from_length)) (uncounted k none)
 
   pub by_absent : Counted k → (o : Option ℕ) → first_absent k t ss ls ≡ o → linked_refusal k t ss ls ≡ at_first NoColumn o from_length
   unfolding linked_refusal

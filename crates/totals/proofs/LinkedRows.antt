@@ -14,8 +14,7 @@ use Rattle.differences.specs.declared.link.Link.{Link}
 use Rattle.differences.specs.declared.distances.Distances.{Distances}
 use Rattle.differences.specs.Tables.{Closed}
 use Rattle.differences.specs.Links.{all_linked, links_refusal}
-use Rattle.differences.specs.Distances.{distance_of, all_values, allowed_by, width_of, Made}
-use Rattle.differences.proofs.Linking.{made_says}
+use Rattle.differences.specs.Distances.{distance_of, all_values, allowed_by, width_of}
 use Rattle.differences.proofs.Narrowing.{lawful-values}
 use Rattle.differences.proofs.Tabling.{table_closed}
 use Rattle.rings.specs.Rings.{RingPlace, TiedSummand, RingsJudged, ring_below, tied, neither, RingsAnswer}
@@ -34,13 +33,11 @@ use Rattle.totals.proofs.Supporting.{total_narrowed}
 ok_err : {f : Fault} → ◌≡◌ {A = Result (Unit {0}) Fault} (Ok tt) (Err f) → ⊥
 ok_err e = let z : ◌≡◌ {A = ℕ} 0 1 = cc in omega arith
 
--- a sum with links that was accepted, and what came of its links
-pub record Sound (k t : ℕ) (ss : List ℕ) (ls : List Link) (o : Option Distances) : Type 0 where
+-- a sum with links that was accepted
+pub record Sound (k t : ℕ) (ss : List ℕ) (ls : List Link) : Type 0 where
   pub entries : linked_refusal k t ss ls ≡ None
   pub rings : RingPlace k ls None
   pub untied : (p : ℕ) → p < k → TiedSummand k ls ss p → ⊥
-  pub wide : width_of k o ≡ k
-  pub same : (x : List ℤ) → lies x (all_values k) ≡ true → all_linked ls x ≡ allowed_by o x
 
 module _ (k t : ℕ) (ss : List ℕ) (ls : List Link) where
   -- what was checked with the answer `Ok`
@@ -51,16 +48,16 @@ module _ (k t : ℕ) (ss : List ℕ) (ls : List Link) where
   pub entries_taken : LinkedChecked k t ss ls (Ok tt) → linked_refusal k t ss ls ≡ None
   entries_taken c = (accepted_by (linked_refusal k t ss ls) c).0
 
-  sound_rings : (o : Option Distances) (p : Option Fault) → p ≡ None → RingsJudged k ls ss p → linked_refusal k t ss ls ≡ None → Made k ls (Ok o) → Sound k t ss ls o
-  sound_rings o _ e (ring_below i r) none m = absurd (some_none e)
-  sound_rings o _ e (tied p r h s f) none m = absurd (some_none e)
-  sound_rings o _ e (neither r u) none m = let says = made_says k ls o m in record { entries = none; rings = r; untied = u; wide = says.wide; same = says.same }
+  sound_rings : (p : Option Fault) → p ≡ None → RingsJudged k ls ss p → linked_refusal k t ss ls ≡ None → Sound k t ss ls
+  sound_rings _ e (ring_below i r) none = absurd (some_none e)
+  sound_rings _ e (tied p r h s f) none = absurd (some_none e)
+  sound_rings _ e (neither r u) none = record { entries = none; rings = r; untied = u }
 
-  pub sound_set : (o : Option Distances) → LinkedChecked k t ss ls (Ok tt) → Made k ls (Ok o) → Sound k t ss ls o
-  sound_set o c m =
+  pub sound_set : LinkedChecked k t ss ls (Ok tt) → Sound k t ss ls
+  sound_set c =
       let (none, rings) = accepted_by (linked_refusal k t ss ls) c in
       let (p, judged, e) = rings in
-      sound_rings o p (answer_ok p (sym e)) judged none m
+      sound_rings p (answer_ok p (sym e)) judged none
 
   -- neither the links nor the sum is refused after that
   pub links_not_refused : (f : Fault) → LinkedChecked k t ss ls (Ok tt) → links_refusal k ls ≡ Some f → ⊥
@@ -70,11 +67,11 @@ module _ (k t : ℕ) (ss : List ℕ) (ls : List Link) where
   sum_not_refused f c e = some_none (sym e ∙ sum_accepted k t ss ls (entries_taken c))
 
   -- the same of a row that holds them
-  pub sound_row : (row : Terms) (kept : List Link) (o : Option Distances) → Holds row k t ss → kept ≡ ls → Sound k t ss ls o → Sound row.columns row.total (row_summands row) kept o
-  sound_row row kept o h e s =
-      subst (λ (n : ℕ). Sound n row.total (row_summands row) kept o) (sym h.columns)
-      (subst (λ (n : ℕ). Sound k n (row_summands row) kept o) (sym h.total)
-      (subst (λ (l : List ℕ). Sound k t l kept o) (sym h.summands) (subst (λ (l : List Link). Sound k t ss l o) (sym e) s)))
+  pub sound_row : (row : Terms) (kept : List Link) → Holds row k t ss → kept ≡ ls → Sound k t ss ls → Sound row.columns row.total (row_summands row) kept
+  sound_row row kept h e s =
+      subst (λ (n : ℕ). Sound n row.total (row_summands row) kept) (sym h.columns)
+      (subst (λ (n : ℕ). Sound k n (row_summands row) kept) (sym h.total)
+      (subst (λ (l : List ℕ). Sound k t l kept) (sym h.summands) (subst (λ (l : List Link). Sound k t ss l) (sym e) s)))
 
   -- and its meaning
   pub linked_held : (row : Terms) (kept : List Link) → Holds row k t ss → kept ≡ ls → row_meaning (linked_kind kept) row ≡ tight_rule (linked_scope k t ss ls) true
@@ -96,26 +93,30 @@ module _ (r : LinkedSum) (vs : List Window) (set : row_refusal r.terms ≡ None)
   abbrev means : Meaning
   means = tight_rule (linked_scope r.terms.columns r.terms.total (row_summands r.terms) (kept_links r)) true
 
-  pub linked_void : r.distances ≡ None → Narrowed means vs (Ok Void) vs
+  -- the table says of a plan of values what the links say
+  table_same : (o : Option Distances) → r.links.distances ≡ o → (x : List ℤ) → lies x (all_values r.terms.columns) ≡ true → all_linked (kept_links r) x ≡ allowed_by o x
+  table_same o e x there =
+      r.links.same x (subst (λ (k : ℕ). lies x (all_values k) ≡ true) (sym (r.wide set)) there) ∙ ap (λ (q : Option Distances). allowed_by q x) e
+
+  pub linked_void : r.links.distances ≡ None → Narrowed means vs (Ok Void) vs
   linked_void e =
       record {
         accepted = ok;
         stays = refl;
         none = λ x a there.
-            both_ways (all_linked (kept_links r) x)
-            (r.same set x (lawful-values r.terms.columns x vs ok there) ∙ ap (λ (o : Option Distances). allowed_by o x) e)
+            both_ways (all_linked (kept_links r) x) (table_same None e x (lawful-values r.terms.columns x vs ok there))
             (and_parts (all_linked (kept_links r) x) (sums r.terms.total (row_summands r.terms) x) a).0;
       }
 
-  pub table_wide : (T : Distances) → r.distances ≡ Some T → T.columns ≡ r.terms.columns
-  table_wide T e = ap (λ (o : Option Distances). width_of r.terms.columns o) (sym e) ∙ r.wide set
+  pub table_wide : (T : Distances) → r.links.distances ≡ Some T → T.columns ≡ r.terms.columns
+  table_wide T e = ap (λ (o : Option Distances). width_of r.links.columns o) (sym e) ∙ r.links.wide ∙ r.wide set
 
-  pub linked_narrowed : (T : Distances) → r.distances ≡ Some T → (v : Verdict) (ws : List Window)
+  pub linked_narrowed : (T : Distances) → r.links.distances ≡ Some T → (v : Verdict) (ws : List Window)
       → TotalOutcome r.terms.columns (distance_of T) r.terms.total (row_summands r.terms) vs v ws → Narrowed means vs (Ok v) ws
   linked_narrowed T e v ws h =
       total_narrowed r.terms.columns (distance_of T) _ r.terms.total (row_summands r.terms) (linked_sums r.terms.total (row_summands r.terms) (kept_links r))
       (linked_meets r.terms.columns r.terms.total (row_summands r.terms) (kept_links r) (none_if_ok _ (r.entries set)) (r.rings set) (r.untied set) T (table_wide T e)
-      (λ x there. r.same set x there ∙ ap (λ (o : Option Distances). allowed_by o x) e))
+      (table_same (Some T) e))
       vs
       (row_taken r.terms set).some
       ok
@@ -158,11 +159,11 @@ module _ (r : LinkedSum) (vs : List Window) (n : ℕ) (wide : n ≡ row_width r.
     by_set : (v : Verdict) (ws : List Window) → Narrowed set_meaning vs (Ok v) ws → Narrowed (linked_meaning r) vs (Ok v) ws
     by_set = set_narrowed (row_refusal r.terms) set_meaning (row_width r.terms) vs (width_means kind r.terms) ok (sym says ∙ yes)
 
-    pub void_narrowed : r.distances ≡ None → Narrowed (linked_meaning r) vs (Ok Void) vs
+    pub void_narrowed : r.links.distances ≡ None → Narrowed (linked_meaning r) vs (Ok Void) vs
     void_narrowed e = by_set Void vs (linked_void r vs is_set windows_taken e)
 
     -- with a table
-    module _ (T : Distances) (table : r.distances ≡ Some T) (ss : List ℕ) (same : ss ≡ row_summands r.terms) where
+    module _ (T : Distances) (table : r.links.distances ≡ Some T) (ss : List ℕ) (same : ss ≡ row_summands r.terms) where
       long : length vs ≡ r.terms.columns
       long = (taken r.terms.columns vs windows_taken).1
 

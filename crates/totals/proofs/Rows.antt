@@ -1,15 +1,12 @@
 -- Rows that hold a total and summands.
-use Rattle.std.proofs.Common.{◌≡◌, ℕ, Bool, true, false, leb, List, length, take, ℤ, is_ok, Some, None, Ok, Err, Option, Result, sym, refl, ap, ◌∙◌, subst, arith, MatchResult}
-use Rattle.std.proofs.lemmas.Bool.{le-leb}
+use Rattle.std.proofs.Common.{◌≡◌, ℕ, Bool, true, false, List, length, ℤ, is_ok, Some, None, Ok, Err, Option, Result, sym, refl, ap, ◌∙◌, subst, arith, MatchResult}
 use Rattle.rules.specs.declared.window.Window.{Window}
 use Rattle.rules.specs.declared.verdict.Verdict.{Verdict}
 use Rattle.rules.specs.declared.verdict.Verdict.TheVariants.{Open}
 use Rattle.rules.specs.declared.fault.Fault.{Fault}
-use Rattle.rules.specs.declared.fault.Fault.TheVariants.{ListLength}
 use Rattle.rules.specs.Plans.{all_lawful}
-use Rattle.rules.specs.Refusals.{unless, answer, window_refusal, Counted}
+use Rattle.rules.specs.Refusals.{answer, window_refusal, Counted}
 use Rattle.rules.specs.Meaning.{Scope, Meaning, tight_rule, meaning_if, fresh_rule, Narrowed}
-use Rattle.rules.proofs.Failing.{some_none}
 use Rattle.rules.proofs.Failing as failing
 use Rattle.rules.proofs.Setting.{none_if_ok, set_if_none, counted_if, fresh_narrowed, taken_by, set_narrowed}
 use Rattle.totals.specs.declared.terms.Terms.{Terms}
@@ -20,17 +17,8 @@ use Rattle.totals.proofs.Supporting.{Meets, total_narrowed}
 use Rattle.totals.proofs.Judging.{Taken, sum_taken}
 
 -- a row that was set holds what it was given
-pub held : (row : Terms) (k t : ℕ) (ss : List ℕ) → row.columns ≡ k → row.total ≡ t → row.count ≡ length ss → take row.count row.summands ≡ ss → sum_refusal k t ss ≡ None → Holds row k t ss
-held row k t ss ek et ec es none =
-    let fit = (sum_taken k t ss none).fit in
-    let few : leb row.count 31 ≡ true = le-leb row.count 31 (omega arith) in
-    let same : sum_refusal row.columns row.total (row_summands row) ≡ sum_refusal k t ss = cc in
-    record {
-      columns = ek;
-      total = et;
-      summands = es;
-      sound = ap (λ b. unless b ListLength (sum_refusal row.columns row.total (row_summands row))) few ∙ same ∙ none;
-    }
+pub held : (row : Terms) (k t : ℕ) (ss : List ℕ) → row.columns ≡ k → row.total ≡ t → row_summands row ≡ ss → sum_refusal k t ss ≡ None → Holds row k t ss
+held row k t ss ek et es none = let same : row_refusal row ≡ sum_refusal k t ss = cc in record { columns = ek; total = et; summands = es; sound = same ∙ none }
 
 pub held_means : (kind : Kind) (row : Terms) (k t : ℕ) (ss : List ℕ) → Holds row k t ss → row_meaning kind row ≡ tight_rule (kind_scope kind k t ss) true
 held_means kind row k t ss h =
@@ -51,16 +39,9 @@ widths (Some f) m k e = refl
 pub width_means : (kind : Kind) (row : Terms) → row_width row ≡ (row_meaning kind row).scope.width
 width_means kind row = widths (row_refusal row) (tight_rule (kind_scope kind row.columns row.total (row_summands row)) true) row.columns refl
 
-by_count : (row : Terms) (b : Bool) → leb row.count 31 ≡ b → unless b ListLength (sum_refusal row.columns row.total (row_summands row)) ≡ None → sum_refusal row.columns row.total (row_summands row) ≡ None
-by_count row true e h = h
-by_count row false e h = absurd (some_none h)
-
 -- what is known of a row that is a sum
-row_none : (row : Terms) → row_refusal row ≡ None → sum_refusal row.columns row.total (row_summands row) ≡ None
-row_none row e = by_count row (leb row.count 31) refl e
-
 pub row_taken : (row : Terms) → row_refusal row ≡ None → Taken row.columns row.total (row_summands row)
-row_taken row e = sum_taken _ _ _ (row_none row e)
+row_taken row e = sum_taken _ _ _ e
 
 pub row_columns : (kind : Kind) (row : Terms) → Counted (row_meaning kind row).scope.width
 row_columns kind row =
@@ -96,7 +77,7 @@ module _ (kind : Kind) (row : Terms) (n : ℕ) (vs : List Window) (width : n ≡
   row_given e =
       let accepted = taken_by (row_refusal row) (tight_rule scope true) n vs (width ∙ width_means kind row) ok e in
       let given = failing.taken row.columns vs accepted in
-      record { sound = e; none = row_none row (none_if_ok _ e); taken = row_taken row (none_if_ok _ e); ok = accepted; lawful = given.0; long = given.1 }
+      record { sound = e; none = none_if_ok _ e; taken = row_taken row (none_if_ok _ e); ok = accepted; lawful = given.0; long = given.1 }
 
   -- the outcome of the trim by its total, over distances with which the row means its kind of sum
   pub row_narrowed : (G : Given row vs) (d : ℕ → ℕ → ℤ) (w : ℕ → ℕ → Option ℤ) → Meets row.columns d w row.total (row_summands row) (kind row.total (row_summands row))

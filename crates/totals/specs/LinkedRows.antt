@@ -1,5 +1,6 @@
 -- What a sum with links means.
-use Rattle.std.specs.Prelude.{List, take}
+use Rattle.std.specs.Prelude.{List}
+use Rattle.rules.specs.ShortLists.{listed}
 use Rattle.rules.specs.Meaning.{Meaning}
 use Rattle.differences.specs.declared.link.Link.{Link}
 use Rattle.totals.specs.declared.linked.LinkedSum.{LinkedSum}
@@ -9,7 +10,7 @@ use Rattle.totals.specs.Terms.{row_meaning}
 
 -- the links that were set
 abbrev pub kept_links : LinkedSum → List Link
-kept_links r = take r.count r.links
+kept_links r = listed r.links.links
 
 abbrev pub linked_kind : List Link → Kind
 linked_kind ls t ss = linked_sums t ss ls

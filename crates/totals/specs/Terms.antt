@@ -1,19 +1,18 @@
 -- Rows that hold a total and summands, and what they mean.
-use Rattle.std.specs.Prelude.{◌≡◌, ℕ, true, List, take, Some, None, Option, nat_le}
+use Rattle.std.specs.Prelude.{◌≡◌, ℕ, true, List, Some, None, Option}
 use Rattle.rules.specs.declared.fault.Fault.{Fault}
-use Rattle.rules.specs.declared.fault.Fault.TheVariants.{ListLength}
-use Rattle.rules.specs.Refusals.{unless}
+use Rattle.rules.specs.ShortLists.{listed}
 use Rattle.rules.specs.Meaning.{Scope, Meaning, tight_rule, meaning_if}
 use Rattle.totals.specs.declared.terms.Terms.{Terms}
 use Rattle.totals.specs.Sums.{Kind, sum_refusal}
 
 -- the summands of a row
 abbrev pub row_summands : Terms → List ℕ
-row_summands row = take row.count row.summands
+row_summands row = listed row.summands
 
 -- the fault of a row that is no sum
 abbrev pub row_refusal : Terms → Option Fault
-row_refusal row = unless (nat_le row.count 31) ListLength (sum_refusal row.columns row.total (row_summands row))
+row_refusal row = sum_refusal row.columns row.total (row_summands row)
 
 abbrev pub kind_scope : Kind → ℕ → ℕ → List ℕ → Scope
 kind_scope kind k t ss = record { width = k; allows = kind t ss }

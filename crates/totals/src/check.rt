@@ -1,26 +1,19 @@
 //! What is judged of a total and its summands before a sum is set.
 
 ghost use Rattle.std.specs.Prelude.{◌≡◌, ℕ, ◌<◌, ◌≤◌, [], ◌∷◌, length};
-ghost use Rattle.rules.specs.Refusals.{answer};
+ghost use Rattle.rules.specs.Refusals.{first_failing, answer};
 ghost use Rattle.totals.specs.Sums.{there, first_again, sum_refusal, SumJudged};
 ghost use Rattle.totals.specs.Cuts.{Columns};
 
 use crate::reaching::MOST_SUMMANDS;
 use rules::window::MOST_COLUMNS;
-use rules::{Fault, Test, first_failing};
+use rules::{Fault, check_columns};
 
-/// The column is there.
-#[derive(Clone, Copy)]
-pub struct There {
-    pub columns: usize,
-}
-
-impl Test<usize> for There {
-    ghost accepts = { λ t c. there t.columns c };
-
-    fn passes(&self, item: usize) -> bool {
-        item < self.columns
-    }
+/// The index of the first summand whose column is not there.
+pub(crate) fn first_absent(columns: usize, summands: &[usize]) -> Option<usize>
+    ensures { result ≡ first_failing (there columns) summands.now }
+{
+    summands.iter().position(|column| *column >= columns)
 }
 
 /// The index of the first summand whose column the total or an earlier summand names.
@@ -46,13 +39,11 @@ pub fn check_sum(columns: usize, total: usize, summands: &[usize]) -> Result<(),
     ensures value { result ≡ answer (sum_refusal columns total summands.now) }
     ensures law { SumJudged columns total summands.now (sum_refusal columns total summands.now) }
 {
-    if columns < 1 || columns > MOST_COLUMNS {
-        return Err(Fault::ColumnCount);
-    }
+    check_columns(columns)?;
     if total >= columns {
         return Err(Fault::NoColumn(0));
     }
-    if let Some(at) = first_failing(&There { columns }, summands) {
+    if let Some(at) = first_absent(columns, summands) {
         return Err(Fault::NoColumn(at + 1));
     }
     if summands.len() < 1 || summands.len() > MOST_SUMMANDS {

@@ -70,7 +70,7 @@ impl<D: Order> Rule for OrderedSum<D> {
             return Ok(Verdict::Open);
         }
         let terms = &self.terms;
-        let summands = &terms.summands[..terms.count];
+        let summands = terms.summands.as_slice();
         let distances = D::of_sum(terms.columns, terms.total, summands);
         Ok(trim_total(&distances, terms.total, summands, windows))
     }

@@ -1,6 +1,6 @@
 //! The total and the summands of a sum, as a row.
 
-ghost use Rattle.std.specs.Prelude.{◌≡◌, ◌≤◌, length, take, is_ok, Some, MatchResult};
+ghost use Rattle.std.specs.Prelude.{◌≡◌, is_ok, Some, MatchResult};
 ghost use Rattle.rules.specs.declared.fault.Fault.TheVariants.{ListLength};
 ghost use Rattle.rules.specs.Refusals.{answer};
 ghost use Rattle.totals.specs.Sums.{sum_refusal, SumJudged};
@@ -8,26 +8,14 @@ ghost use Rattle.totals.specs.Terms.{row_refusal, row_width, Holds};
 
 use crate::check::check_sum;
 use crate::reaching::MOST_SUMMANDS;
-use rules::Fault;
+use rules::{Fault, ShortList};
 
-/// A total and the first `count` of the places for summands, on a board of so many columns. What `check_sum` would refuse, or a count
-/// beyond the places, is no sum.
+/// A total and its summands, on a board of so many columns. What `check_sum` would refuse is no sum.
 #[derive(Clone, Copy)]
 pub struct Terms {
     pub columns: usize,
     pub total: usize,
-    pub count: usize,
-    pub summands: [usize; 31],
-}
-
-/// The columns, and others after them.
-fn stored(summands: &[usize]) -> [usize; 31]
-    requires { length summands.now ≤ 31 }
-    ensures { take (length summands.now) result ≡ summands.now }
-{
-    let mut all = [0; MOST_SUMMANDS];
-    all[0..summands.len()].copy_from_slice(summands);
-    all
+    pub summands: ShortList<usize, MOST_SUMMANDS>,
 }
 
 impl Terms {
@@ -38,8 +26,7 @@ impl Terms {
         Terms {
             columns: 1,
             total: 0,
-            count: 0,
-            summands: [0; MOST_SUMMANDS],
+            summands: ShortList::empty(0),
         }
     }
 
@@ -58,8 +45,7 @@ impl Terms {
         *self = Terms {
             columns,
             total,
-            count: summands.len(),
-            summands: stored(summands),
+            summands: ShortList::of(summands, 0)?,
         };
         Ok(())
     }
@@ -68,8 +54,7 @@ impl Terms {
     pub(crate) fn is_set(&self) -> bool
         ensures { result ≡ is_ok (answer (row_refusal self.now)) }
     {
-        self.count <= MOST_SUMMANDS
-            && check_sum(self.columns, self.total, &self.summands[..self.count]).is_ok()
+        check_sum(self.columns, self.total, self.summands.as_slice()).is_ok()
     }
 
     /// The number of columns that the row means.

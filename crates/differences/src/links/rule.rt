@@ -38,6 +38,7 @@ impl Links {
         ensures value { result ≡ answer (links_refusal columns links.now) }
         ensures law { LinksJudged columns links.now (links_refusal columns links.now) }
         ensures taken { result ≡ Ok tt → meaning_of self.new ≡ links_meaning columns links.now }
+        ensures kept { result ≡ Ok tt → (self.new.columns ≡ columns) × (listed self.new.links ≡ links.now) }
         ensures refused { (f : Fault) → result ≡ Err f → self.new ≡ self.old }
     {
         let distances = Distances::of_links(columns, links)?;

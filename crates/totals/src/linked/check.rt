@@ -1,29 +1,30 @@
 //! What is judged of a total, its summands and links before a linked sum is set.
 
 ghost use Rattle.std.specs.Prelude.{◌≡◌, ◌<◌, length};
+ghost use Rattle.rules.specs.Refusals.{first_failing};
 ghost use Rattle.totals.specs.Cuts.{Columns};
 ghost use Rattle.totals.specs.Linked.{other_columns, link_entry, first_absent, first_repeated, linked_refusal, LinkedJudged, LinkedChecked};
 
-use crate::check::{There, first_again};
+use crate::check;
+use crate::check::first_again;
 use crate::reaching::MOST_SUMMANDS;
 use differences::Link;
-use differences::check::{Bounded, MOST_LINKS, Present};
+use differences::check::{MOST_LINKS, first_absent, first_unbounded};
 use rings::check_rings;
-use rules::window::MOST_COLUMNS;
-use rules::{Fault, Test, first_failing};
+use rules::{Fault, check_columns};
 
-/// A link joins two columns other than the total.
-#[derive(Clone, Copy)]
-pub struct OtherColumns {
-    pub total: usize,
+/// The link joins two columns other than the total.
+fn joins_others(link: &Link, total: usize) -> bool
+    ensures { result ≡ other_columns total link.now }
+{
+    link.has_two_columns() && link.left != total && link.right != total
 }
 
-impl Test<Link> for OtherColumns {
-    ghost accepts = { λ s l. other_columns s.total l };
-
-    fn passes(&self, item: Link) -> bool {
-        item.left != item.right && item.left != self.total && item.right != self.total
-    }
+/// The index of the first link of a column with itself or with the total.
+fn first_repeating(total: usize, links: &[Link]) -> Option<usize>
+    ensures { result ≡ first_failing (other_columns total) links.now }
+{
+    links.iter().position(|link| !joins_others(link, total))
 }
 
 /// The entries of a sum with links: the total, the summands, then the links.
@@ -52,10 +53,10 @@ impl<'a> Entries<'a> {
         if self.total >= columns {
             return Some(0);
         }
-        if let Some(at) = first_failing(&There { columns }, self.summands) {
+        if let Some(at) = check::first_absent(columns, self.summands) {
             return Some(at + 1);
         }
-        let at = first_failing(&Present { columns }, self.links)?;
+        let at = first_absent(columns, self.links)?;
         Some(self.link_entry(at))
     }
 
@@ -69,7 +70,7 @@ impl<'a> Entries<'a> {
         if let Some(at) = first_again(total, self.summands) {
             return Some(at + 1);
         }
-        let at = first_failing(&OtherColumns { total }, self.links)?;
+        let at = first_repeating(total, self.links)?;
         Some(self.link_entry(at))
     }
 }
@@ -87,9 +88,7 @@ pub fn check_linked(
     ensures value { LinkedChecked columns total summands.now links.now result }
     ensures law { LinkedJudged columns total summands.now links.now (linked_refusal columns total summands.now links.now) }
 {
-    if columns < 1 || columns > MOST_COLUMNS {
-        return Err(Fault::ColumnCount);
-    }
+    check_columns(columns)?;
     let entries = Entries {
         columns,
         total,
@@ -105,7 +104,7 @@ pub fn check_linked(
     if let Some(at) = entries.first_repeated() {
         return Err(Fault::ColumnTwice(at));
     }
-    if let Some(at) = first_failing(&Bounded, links) {
+    if let Some(at) = first_unbounded(links) {
         return Err(Fault::OutOfRange(entries.link_entry(at)));
     }
     check_rings(columns, links, summands)

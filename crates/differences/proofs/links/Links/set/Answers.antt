@@ -15,6 +15,7 @@ returns-in_err-distances c =
       value = p.1 ∙ (ap (λ (f : Fault). Err f) p.2 ∙ ap answer (sym c.in_err-distances.ensures));
       law = links_judged _ _;
       taken = λ e. let z : ◌≡◌ {A = ℕ} 0 1 = cc in absurd (omega arith);
+      kept = λ e. let z : ◌≡◌ {A = ℕ} 0 1 = cc in absurd (omega arith);
       refused = λ f e. refl;
     }
 
@@ -36,6 +37,7 @@ returns c =
       value = ap answer (sym says.accepted);
       law = links_judged _ _;
       taken = λ _. ap (λ (ls : List Link). links_meaning c.args.columns ls) c.in_ok-of.ensures.1;
+      kept = λ _. (refl, c.in_ok-of.ensures.1);
       refused = λ f e. let z : ◌≡◌ {A = ℕ} 0 1 = cc in absurd (omega arith);
     }
 

@@ -1,9 +1,8 @@
-use Rattle.std.proofs.Common.{sym, rules}
+use Rattle.std.proofs.Common.{sym, refl, ◌∙◌, rules}
 use Rattle.std.proofs.lemmas.Result.{err_from_is_err_and}
 use Rattle.rules.proofs.Failing.{answer_err}
-use Rattle.differences.proofs.Judging.{links_taken}
-use Rattle.totals.proofs.LinkedJudging.{linked_judged, links_accepted}
-use Rattle.totals.proofs.LinkedRows.{entries_taken, links_not_refused, sum_not_refused, sound_set, sound_row, linked_held, handed_on, ok_if_none}
+use Rattle.totals.proofs.LinkedJudging.{linked_judged}
+use Rattle.totals.proofs.LinkedRows.{links_not_refused, sum_not_refused, sound_set, sound_row, linked_held, handed_on, ok_if_none}
 use Rattle.totals.proofs.linked.LinkedSum.set.Goals as goal
 
 pub returns-in_err-check_linked : goal.returns-in_err-check_linked
@@ -15,23 +14,17 @@ returns-in_err-check_linked c =
       after = search rules;
     }
 
-pub returns-in_err-distances : goal.returns-in_err-distances
-returns-in_err-distances c =
-    absurd
-    (links_not_refused c.args.columns c.args.total c.args.summands.now c.args.links.now _ c.in_ok-check_linked.ensures.value c.in_err-distances.ensures)
-
 pub returns-in_err-set : goal.returns-in_err-set
 returns-in_err-set c =
     absurd
-    (sum_not_refused c.args.columns c.args.total c.args.summands.now c.args.links.now _ c.in_ok-check_linked.ensures.value
+    (links_not_refused c.args.columns c.args.total c.args.summands.now c.args.links.now _ c.in_ok-check_linked.ensures.value
     (answer_err _ _ (sym c.in_err-set.ensures.value)))
 
-pub stored-links-requires : goal.stored-links-requires
-stored-links-requires c =
-    let k = c.args.columns in
-    let ls = c.args.links.now in
-    (links_taken k ls
-    (links_accepted k c.args.total c.args.summands.now ls (entries_taken k c.args.total c.args.summands.now ls c.in_ok-check_linked.ensures.value))).fit
+pub returns-in_err-set-2 : goal.returns-in_err-set-2
+returns-in_err-set-2 c =
+    absurd
+    (sum_not_refused c.args.columns c.args.total c.args.summands.now c.args.links.now _ c.in_ok-check_linked.ensures.value
+    (answer_err _ _ (sym c.in_err-set-2.ensures.value)))
 
 pub invariant_of-self : goal.invariant_of-self
 invariant_of-self c =
@@ -39,21 +32,15 @@ invariant_of-self c =
     let t = c.args.total in
     let ss = c.args.summands.now in
     let ls = c.args.links.now in
-    let o = c.in_ok-distances.distances in
-    let s = sound_row k t ss ls c.set.new.self _ o c.in_ok-set.ensures.after c.stored-links.ensures
-    (sound_set k t ss ls o c.in_ok-check_linked.ensures.value c.in_ok-distances.ensures) in
-    record {
-      entries = λ _. ok_if_none _ s.entries;
-      rings = λ _. s.rings;
-      untied = λ _. s.untied;
-      wide = λ _. s.wide;
-      same = λ _. s.same;
-    }
+    let kept = c.in_ok-set.ensures.kept refl in
+    let held = c.in_ok-set-2.ensures.after in
+    let s = sound_row k t ss ls c.set-2.new.self _ held kept.1 (sound_set k t ss ls c.in_ok-check_linked.ensures.value) in
+    record { entries = λ _. ok_if_none _ s.entries; rings = λ _. s.rings; untied = λ _. s.untied; wide = λ _. kept.0 ∙ sym held.columns }
 
 pub returns : goal.returns
 returns c =
     record {
       value = c.in_ok-check_linked.ensures.value;
       law = linked_judged _ _ _ _;
-      after = linked_held _ _ _ _ c.set.new.self _ c.in_ok-set.ensures.after c.stored-links.ensures;
+      after = linked_held _ _ _ _ c.set-2.new.self _ c.in_ok-set-2.ensures.after (c.in_ok-set.ensures.kept refl).1;
     }

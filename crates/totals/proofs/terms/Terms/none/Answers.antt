@@ -5,4 +5,4 @@ use Rattle.totals.proofs.terms.Terms.none.Goals as goal
 
 pub returns : goal.returns
 unfolding sum_refusal first_failing
-returns c = refl
+returns c = rw c.empty.ensures refl

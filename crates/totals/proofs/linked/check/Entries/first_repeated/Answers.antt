@@ -13,12 +13,12 @@ returns-in-Some c = sym (summand_again 0 _ c.args.self.now.summands.now c.args.s
 pub returns-in_err-at : goal.returns-in_err-at
 returns-in_err-at c =
     c.from_residual.ensures
-    ∙ sym (link_again 0 _ c.args.self.now.summands.now c.args.self.now.links.now (search rules) None (sym c.first_failing.ensures ∙ c.in_err-at.was))
+    ∙ sym (link_again 0 _ c.args.self.now.summands.now c.args.self.now.links.now (search rules) None (sym c.first_repeating.ensures ∙ c.in_err-at.was))
 
 pub link_entry-requires : goal.link_entry-requires
-link_entry-requires c = first_within (other_columns c.args.self.now.total) c.args.self.now.links.now c.in_ok-at.at (sym c.first_failing.ensures ∙ c.in_ok-at.was)
+link_entry-requires c = first_within (other_columns c.args.self.now.total) c.args.self.now.links.now c.in_ok-at.at (sym c.first_repeating.ensures ∙ c.in_ok-at.was)
 
 pub returns : goal.returns
 returns c =
     ap Some c.link_entry.ensures
-    ∙ sym (link_again 0 _ c.args.self.now.summands.now c.args.self.now.links.now (search rules) (Some c.in_ok-at.at) (sym c.first_failing.ensures ∙ c.in_ok-at.was))
+    ∙ sym (link_again 0 _ c.args.self.now.summands.now c.args.self.now.links.now (search rules) (Some c.in_ok-at.at) (sym c.first_repeating.ensures ∙ c.in_ok-at.was))

@@ -1,10 +1,7 @@
-use Rattle.std.proofs.Common.{◌≡◌, ℕ, ◌-◌, true, false, List, take, refl, ap, arith}
+use Rattle.std.proofs.Common.{true, false, sym, refl, ap, ◌∙◌}
+use Rattle.std.specs.Option.{option_map}
 use Rattle.totals.proofs.LinkedRows.{unset_narrowed, void_narrowed, ready, table_narrowed}
 use Rattle.totals.proofs.linked.rule.LinkedSumRule.narrow.Goals as goal
-
--- the part of a list from its start
-from_start : (xs : List ℕ) (n : ℕ) → take (n - 0) xs ≡ take n xs
-from_start xs n = ap (λ (m : ℕ). take m xs) (omega arith)
 
 pub returns-then-not-is_set : goal.returns-then-not-is_set
 returns-then-not-is_set c =
@@ -16,7 +13,7 @@ returns-then-not-is_set c =
 pub trim_total-requires : goal.trim_total-requires
 trim_total-requires c =
     let r = c.args.self.now in
-    let asked = ready r c.args.windows.now c.width.result c.width.ensures c.in_ok-check_windows.ensures.value true c.if-not-is_set.ensures refl c.in-Some.distances c.in-Some.is _ (from_start r.terms.summands r.terms.count) in
+    let asked = ready r c.args.windows.now c.width.result c.width.ensures c.in_ok-check_windows.ensures.value true c.if-not-is_set.ensures refl c.in-Some.distances.now (sym c.distances.ensures ∙ ap (option_map (λ d. d.now)) c.in-Some.is) _ c.as_slice.ensures in
     record {
       width = asked.width;
       closed = asked.closed;
@@ -31,7 +28,7 @@ pub returns-in-None : goal.returns-in-None
 returns-in-None c =
     record {
       same = refl;
-      outcome = void_narrowed c.args.self.now c.args.windows.now c.width.result c.width.ensures c.in_ok-check_windows.ensures.value true c.if-not-is_set.ensures refl c.in-None.is;
+      outcome = void_narrowed c.args.self.now c.args.windows.now c.width.result c.width.ensures c.in_ok-check_windows.ensures.value true c.if-not-is_set.ensures refl (sym c.distances.ensures ∙ ap (option_map (λ d. d.now)) c.in-None.is);
     }
 
 pub returns-in-Some : goal.returns-in-Some
@@ -39,5 +36,5 @@ returns-in-Some c =
     let r = c.args.self.now in
     record {
       same = refl;
-      outcome = table_narrowed r c.args.windows.now c.width.result c.width.ensures c.in_ok-check_windows.ensures.value true c.if-not-is_set.ensures refl c.in-Some.distances c.in-Some.is _ (from_start r.terms.summands r.terms.count) c.trim_total.result c.trim_total.new.windows c.trim_total.ensures;
+      outcome = table_narrowed r c.args.windows.now c.width.result c.width.ensures c.in_ok-check_windows.ensures.value true c.if-not-is_set.ensures refl c.in-Some.distances.now (sym c.distances.ensures ∙ ap (option_map (λ d. d.now)) c.in-Some.is) _ c.as_slice.ensures c.trim_total.result c.trim_total.new.windows c.trim_total.ensures;
     }
