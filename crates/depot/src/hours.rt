@@ -2,11 +2,13 @@
 
 ghost use Rattle.std.specs.Prelude.{◌≡◌, ◌<◌, true, length, Some, Ok};
 ghost use Rattle.rules.specs.Plans.{lawful, all_lawful};
+ghost use Rattle.rules.specs.Refusals.{answer};
 ghost use Rattle.rules.specs.Meaning.{Narrowed};
-ghost use Rattle.depot.specs.Quarters.{QuartersLeft};
+ghost use Rattle.depot.specs.Quarters.{QuartersLeft, hours_refusal, HoursJudged};
 ghost use Rattle.depot.specs.Hours.{quarter_meaning};
 
-use rules::{Verdict, Window};
+use rules::window::MOST_COLUMNS;
+use rules::{Fault, Verdict, Window};
 
 /// The minutes of a quarter hour.
 const QUARTER: u32 = 15;
@@ -20,13 +22,30 @@ pub(crate) struct Hours {
 }
 
 impl Hours {
+    /// Judges the hours of one of `columns` columns.
+    pub(crate) fn check(&self, columns: usize) -> Result<(), Fault>
+        ensures value { result ≡ answer (hours_refusal columns self.now.column self.now.opens self.now.closes) }
+        ensures law { HoursJudged columns self.now.column self.now.opens self.now.closes (hours_refusal columns self.now.column self.now.opens self.now.closes) }
+    {
+        if columns < 1 || columns > MOST_COLUMNS {
+            return Err(Fault::ColumnCount);
+        }
+        if self.column >= columns {
+            return Err(Fault::NoColumn(0));
+        }
+        if self.opens > self.closes {
+            return Err(Fault::UnlawfulWindow(0));
+        }
+        Ok(())
+    }
+
     /// Cuts the window of the column down to its quarter hours while the depot is open. `Void` leaves it as it was.
     pub(crate) fn cut(&self, windows: &mut [Window]) -> Verdict
         requires lawful { all_lawful windows.old ≡ true }
         requires there { self.now.column < length windows.old }
         ensures { Narrowed (quarter_meaning (length windows.old) (Some self.now)) windows.old (Ok result) windows.new }
     {
-        match quarters(windows[self.column], self.opens, self.closes) {
+        match self.quarters(windows[self.column]) {
             Some(window) => {
                 windows[self.column] = window;
                 Verdict::Open
@@ -34,28 +53,28 @@ impl Hours {
             None => Verdict::Void,
         }
     }
-}
 
-/// From the first quarter hour of a window to its last, while the depot is open.
-fn quarters(window: Window, opens: u32, closes: u32) -> Option<Window>
-    requires { lawful window ≡ true }
-    ensures { QuartersLeft opens closes window result }
-{
-    if window.last < 0 {
-        return None;
+    /// From the first quarter hour of a window to its last, while the depot is open.
+    fn quarters(&self, window: Window) -> Option<Window>
+        requires { lawful window ≡ true }
+        ensures { QuartersLeft self.now.opens self.now.closes window result }
+    {
+        if window.last < 0 {
+            return None;
+        }
+        let earliest = self.opens.max(window.first.max(0) as u32);
+        let latest = self.closes.min(window.last as u32);
+        if earliest > latest {
+            return None;
+        }
+        let first = (earliest + (QUARTER - 1)) / QUARTER * QUARTER;
+        let last = latest / QUARTER * QUARTER;
+        if first > last {
+            return None;
+        }
+        Some(Window {
+            first: first as i32,
+            last: last as i32,
+        })
     }
-    let earliest = opens.max(window.first.max(0) as u32);
-    let latest = closes.min(window.last as u32);
-    if earliest > latest {
-        return None;
-    }
-    let first = (earliest + (QUARTER - 1)) / QUARTER * QUARTER;
-    let last = latest / QUARTER * QUARTER;
-    if first > last {
-        return None;
-    }
-    Some(Window {
-        first: first as i32,
-        last: last as i32,
-    })
 }

@@ -7,7 +7,6 @@ ghost use Rattle.depot.specs.Quarters.{claims_nothing, starting, hours_refusal, 
 ghost use Rattle.depot.specs.Hours.{column_there, quarter_meaning};
 
 use crate::hours::Hours;
-use rules::window::MOST_COLUMNS;
 use rules::{Fault, Rule, Verdict, Window, check_windows};
 
 /// One column starts only on the quarter hour, and only while the depot is open.
@@ -53,13 +52,14 @@ impl QuarterHours {
         ensures after { MatchResult result (λ _. quarter_meaning self.new.columns self.new.hours ≡ claims_nothing (record { width = columns; allows = starting column opens closes })) (λ _. self.new ≡ self.old) }
         ensures note { self.new.asked ≡ self.old.asked }
     {
-        check_hours(columns, column, opens, closes)?;
-        self.columns = columns;
-        self.hours = Some(Hours {
+        let hours = Hours {
             column,
             opens,
             closes,
-        });
+        };
+        hours.check(columns)?;
+        self.columns = columns;
+        self.hours = Some(hours);
         Ok(())
     }
 
@@ -69,23 +69,6 @@ impl QuarterHours {
     {
         self.asked
     }
-}
-
-/// Judges what `set` is given.
-fn check_hours(columns: usize, column: usize, opens: u32, closes: u32) -> Result<(), Fault>
-    ensures value { result ≡ answer (hours_refusal columns column opens closes) }
-    ensures law { HoursJudged columns column opens closes (hours_refusal columns column opens closes) }
-{
-    if columns < 1 || columns > MOST_COLUMNS {
-        return Err(Fault::ColumnCount);
-    }
-    if column >= columns {
-        return Err(Fault::NoColumn(0));
-    }
-    if opens > closes {
-        return Err(Fault::UnlawfulWindow(0));
-    }
-    Ok(())
 }
 
 impl Rule for QuarterHours {
