@@ -67,7 +67,7 @@ impl Hours {
         if earliest > latest {
             return None;
         }
-        let first = (earliest + (QUARTER - 1)) / QUARTER * QUARTER;
+        let first = earliest.div_ceil(QUARTER) * QUARTER;
         let last = latest / QUARTER * QUARTER;
         if first > last {
             return None;
