@@ -59,11 +59,10 @@ impl Hours {
         requires { lawful window ≡ true }
         ensures { QuartersLeft self.now.opens self.now.closes window result }
     {
-        if window.last < 0 {
-            return None;
-        }
+        // A window that ends below 0 holds no minute.
+        let until = u32::try_from(window.last).ok()?;
         let earliest = self.opens.max(window.first.max(0) as u32);
-        let latest = self.closes.min(window.last as u32);
+        let latest = self.closes.min(until);
         if earliest > latest {
             return None;
         }
