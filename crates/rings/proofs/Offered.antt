@@ -3,10 +3,11 @@ use Rattle.std.proofs.Common.{◌≡◌, ℕ, zero, suc, ◌<◌, ◌≤◌, Lis
 use Rattle.std.specs.List.{ContainsAt as Has}
 use Rattle.std.proofs.lemmas.List.{get_or-replicate}
 use Rattle.rules.specs.declared.fault.Fault.{Fault}
+use Rattle.rules.specs.Refusals.{answer}
 use Rattle.differences.specs.declared.link.Link.{Link}
 use Rattle.differences.specs.Links.{links_refusal}
 use Rattle.differences.proofs.Judging.{links_taken}
-use Rattle.rings.specs.Rings.{RingsAnswer, RingsChecked}
+use Rattle.rings.specs.Rings.{RingsJudged, RingsAnswer, RingsChecked}
 use Rattle.rings.specs.Tables.{GoodLinks, Blank}
 use Rattle.rings.proofs.Entries.{no_link}
 
@@ -37,8 +38,8 @@ taken k links e =
 pub checked_links : (k : ℕ) (links : List Link) (ss : List ℕ) (f : Fault) → links_refusal k links ≡ Some f → RingsChecked k links ss (Err f)
 checked_links k links ss f e = subst (λ (o : Option Fault). MatchOption o (RingsAnswer k links ss (Err f)) (λ g. ◌≡◌ {A = Result (Unit {0}) Fault} (Err f) (Err g))) (sym e) refl
 
-pub checked_rings : (k : ℕ) (links : List Link) (ss : List ℕ) (r : Result (Unit {0}) Fault) → links_refusal k links ≡ None → RingsAnswer k links ss r → RingsChecked k links ss r
-checked_rings k links ss r e a = subst (λ (p : Option Fault). MatchOption p (RingsAnswer k links ss r) (λ g. r ≡ Err g)) (sym e) a
+pub checked_rings : (k : ℕ) (links : List Link) (ss : List ℕ) (o : Option Fault) → links_refusal k links ≡ None → RingsJudged k links ss o → RingsChecked k links ss (answer o)
+checked_rings k links ss o e j = subst (λ (p : Option Fault). MatchOption p (RingsAnswer k links ss (answer o)) (λ g. ◌≡◌ {A = Result (Unit {0}) Fault} (answer o) (Err g))) (sym e) (o, j, refl)
 
 -- a table of nothing
 entry_none : (n j : ℕ) → ◌≡◌ {A = Option ℤ} (get_or (replicate n None) j None) None

@@ -1,18 +1,17 @@
 //! The refusals of links that a sum cannot take: a ring below 0, and two tied summands.
 
-ghost use Rattle.std.specs.Prelude.{◌≡◌, None};
-ghost use Rattle.differences.specs.Links.{links_refusal};
-ghost use Rattle.rings.specs.Rings.{RingsAnswer, RingsChecked};
+ghost use Rattle.rings.specs.Rings.{RingsChecked};
 
 use crate::walks::ClosedTable;
 use differences::{Link, check_links};
 use rules::Fault;
 
-/// Judges the rings of links: first a ring below 0, then a tie.
-fn judge(columns: usize, links: &[Link], summands: &[usize]) -> Result<(), Fault>
-    requires { links_refusal columns links.now ≡ None }
-    ensures { RingsAnswer columns links.now summands.now result }
+/// Refuses links that `Links::set` would refuse, then a ring below 0 (12, at the smallest column on such a ring), then two of the
+/// summands that a ring of length 0 ties (13, at the smallest tied summand).
+pub fn check_rings(columns: usize, links: &[Link], summands: &[usize]) -> Result<(), Fault>
+    ensures { RingsChecked columns links.now summands.now result }
 {
+    check_links(columns, links)?;
     let table = ClosedTable::of(columns, links);
     if let Some(column) = table.first_on_ring() {
         return Err(Fault::NegativeRing(column));
@@ -21,13 +20,4 @@ fn judge(columns: usize, links: &[Link], summands: &[usize]) -> Result<(), Fault
         return Err(Fault::TiedSummands(column));
     }
     Ok(())
-}
-
-/// Refuses links that `Links::set` would refuse, then a ring below 0 (12, at the smallest column on such a ring), then two of the
-/// summands that a ring of length 0 ties (13, at the smallest tied summand).
-pub fn check_rings(columns: usize, links: &[Link], summands: &[usize]) -> Result<(), Fault>
-    ensures { RingsChecked columns links.now summands.now result }
-{
-    check_links(columns, links)?;
-    judge(columns, links, summands)
 }
