@@ -50,6 +50,7 @@ fn turn(windows: &mut [Window])
     }
 }
 
+// Any two numbers make a `Window`, so that it is lawful stands in contracts, and not in its type.
 /// The window of the values with their signs turned.
 fn opposite(window: Window) -> Window
     requires { lawful window ≡ true }

@@ -13,6 +13,7 @@ mod ties;
 /// From one column to each: the length of a walk, or none.
 type Row = [Option<i64>; MOST_COLUMNS];
 
+// That there are at most 32 columns is a clause of `pass`, not a ghost field: the check does not lend a row of a struct with one yet.
 /// The table while walks are entered. The entries of its leading columns count.
 #[derive(Drop)]
 pub(crate) struct Table {

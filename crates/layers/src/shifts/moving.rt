@@ -43,6 +43,7 @@ impl Shifts {
     }
 }
 
+// Any two numbers make a `Window`, so that it is lawful stands in contracts, and not in its type.
 /// The values of a window, shifted.
 fn lowered(window: Window, shift: i32) -> Window
     requires lawful { lawful window ≡ true }
