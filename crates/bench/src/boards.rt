@@ -1,70 +1,58 @@
 //! The boards that are measured.
 
 use crate::measure::Measure;
+use anyhow::anyhow;
 use differences::Link;
-use rules::Window;
-use totals::{LinkedSum, RisingSum, Sum};
+use rules::{Fault, Rule, Window};
+use std::array;
+use totals::LinkedSum;
 
-/// Columns 0 to 30.
-const FIRST_31: [usize; 31] = [
-    0, 1, 2, 3, 4, 5, 6, 7, 8, 9, 10, 11, 12, 13, 14, 15, 16, 17, 18, 19, 20, 21, 22, 23, 24, 25,
-    26, 27, 28, 29, 30,
-];
-
-/// All windows alike but that of the last column, the total.
-fn board(last: i32, at: usize, total: Window) -> [Window; 32] {
-    let mut windows = [Window { first: 0, last }; 32];
-    if at < windows.len() {
-        windows[at] = total;
+/// Windows from 0 to `last`, but that of the last column, the total.
+fn board<const N: usize>(last: i32, total: Window) -> [Window; N] {
+    let mut windows = [Window { first: 0, last }; N];
+    if let Some(window) = windows.last_mut() {
+        *window = total;
     }
     windows
 }
 
-pub(crate) fn sum(measure: &Measure<'_>) -> anyhow::Result<()> {
-    let mut rule = Sum::fresh();
-    let _ = rule.set(32, 31, &FIRST_31);
-    let total = Window {
-        first: 15_000,
-        last: 15_500,
-    };
-    measure.board("a sum of 31", &mut rule, &board(1_000, 31, total))
+/// The error of a rule that could not be set.
+fn unset(fault: Fault) -> anyhow::Error {
+    anyhow!("{fault}")
 }
 
-pub(crate) fn rising_sum(measure: &Measure<'_>) -> anyhow::Result<()> {
-    let mut rule = RisingSum::fresh();
-    let _ = rule.set(32, 31, &FIRST_31);
+/// A total of 31 summands. `set` takes the number of columns, the total and the summands.
+pub(crate) fn sum_of_31<R: Rule, F: FnOnce(&mut R, usize, usize, &[usize]) -> Result<(), Fault>>(
+    measure: &Measure<'_>,
+    name: &str,
+    rule: &mut R,
+    set: F,
+) -> anyhow::Result<()>
+    requires { F.IsAlwaysCallable set }
+{
+    let summands: [usize; 31] = array::from_fn(|i| i);
+    set(rule, 32, 31, &summands).map_err(unset)?;
     let total = Window {
         first: 15_000,
         last: 15_500,
     };
-    measure.board("a rising sum of 31", &mut rule, &board(1_000, 31, total))
+    measure.board(name, rule, &board::<32>(1_000, total))
 }
 
 /// Thirty columns, each below the next, whose total is fifteen times the width of their windows.
-pub(crate) fn linked_sum(measure: &Measure<'_>, width: i32) -> anyhow::Result<()> {
-    let mut links = [Link {
-        left: 0,
-        right: 1,
+pub(crate) fn linked_sum(measure: &Measure<'_>, name: &str, width: i32) -> anyhow::Result<()> {
+    let summands: [usize; 30] = array::from_fn(|i| i);
+    let links: [Link; 29] = array::from_fn(|i| Link {
+        left: i,
+        right: i.saturating_add(1),
         bound: -1,
-    }; 29];
-    for (i, link) in links.iter_mut().enumerate() {
-        *link = Link {
-            left: i,
-            right: i + 1,
-            bound: -1,
-        };
-    }
+    });
     let mut rule = LinkedSum::fresh();
-    let _ = rule.set(31, 30, &FIRST_31[..30], &links);
+    rule.set(31, 30, &summands, &links).map_err(unset)?;
     let all = width.saturating_mul(15);
     let total = Window {
         first: all,
         last: all,
     };
-    let name = if width > 1_000 {
-        "a sum of 30 in a chain, wide"
-    } else {
-        "a sum of 30 in a chain"
-    };
-    measure.board(name, &mut rule, &board(width, 30, total))
+    measure.board(name, &mut rule, &board::<31>(width, total))
 }

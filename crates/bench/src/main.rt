@@ -7,28 +7,33 @@
 mod boards;
 mod measure;
 
-use crate::measure::Measure;
+use crate::measure::{Measure, Report};
 use std::env;
+use totals::{RisingSum, Sum};
 
 /// How many trims are made where no number is given.
 const COUNT: u32 = 1_000;
 
 fn run(rt: &HostRuntime) -> anyhow::Result<()> {
-    let mut words = env::args(rt)?;
-    let _ = words.next();
+    let mut words = env::args(rt)?.skip(1);
     let count = match words.next() {
         Some(word) => word.as_str().parse::<u32>()?,
         None => COUNT,
     };
-    let measure = Measure {
-        rt,
-        count,
-        times: words.next().is_some(),
+    let report = match words.next() {
+        Some(_) => Report::Times,
+        None => Report::Counts,
     };
-    boards::sum(&measure)?;
-    boards::rising_sum(&measure)?;
-    boards::linked_sum(&measure, 1_000)?;
-    boards::linked_sum(&measure, 1_000_000)
+    let measure = Measure { rt, count, report };
+    boards::sum_of_31(&measure, "a sum of 31", &mut Sum::fresh(), Sum::set)?;
+    boards::sum_of_31(
+        &measure,
+        "a rising sum of 31",
+        &mut RisingSum::fresh(),
+        RisingSum::set,
+    )?;
+    boards::linked_sum(&measure, "a sum of 30 in a chain", 1_000)?;
+    boards::linked_sum(&measure, "a sum of 30 in a chain, wide", 1_000_000)
 }
 
 fn main(rt: HostRuntime) -> anyhow::Result<()> {

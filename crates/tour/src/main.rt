@@ -2,6 +2,7 @@
 
 #![tactic(auto)]
 
+mod board;
 mod clock;
 mod scenes;
 mod telling;

@@ -1,36 +1,23 @@
 //! What the dairy asks for.
 
+use crate::board::{Board, Column, Values};
 use crate::telling;
-use rules::Window;
+use std::alloc::AllocError;
 use std::io;
 
-/// The visits of the day; a visit's place in this list is its column.
-pub const VISITS: [&str; 4] = [
-    "milking machine service",
-    "cooler check",
-    "cleaning",
-    "tank inspection",
-];
-
-/// The starts that the dairy asks for: the tank inspection from 8 to 9, the others from 6 to 12.
-pub const ASKED: [Window; 4] = [
-    Window {
-        first: 360,
-        last: 720,
-    },
-    Window {
-        first: 360,
-        last: 720,
-    },
-    Window {
-        first: 360,
-        last: 720,
-    },
-    Window {
-        first: 480,
-        last: 540,
-    },
-];
+/// The visits of the day, with the starts that the dairy asks for: the tank inspection from 8 to 9, the others from 6 to 12.
+pub(crate) fn board(rt: &HostRuntime) -> Result<Board, AllocError> {
+    Board::of(
+        rt,
+        Values::Starts,
+        &[
+            Column::new("milking machine service", 360, 720),
+            Column::new("cooler check", 360, 720),
+            Column::new("cleaning", 360, 720),
+            Column::new("tank inspection", 480, 540),
+        ],
+    )
+}
 
 pub(crate) fn tell(rt: &HostRuntime) -> io::Result<()> {
     println!(rt; "The service day of a dairy")?;
@@ -41,5 +28,5 @@ pub(crate) fn tell(rt: &HostRuntime) -> io::Result<()> {
     println!(rt;
         "  A plan gives each visit one start, and the dairy asks that it lies in these windows."
     )?;
-    telling::starts(rt, &VISITS, &ASKED)
+    board(rt)?.list(rt)
 }

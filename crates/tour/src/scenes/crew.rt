@@ -1,41 +1,40 @@
 //! Two visits by one crew, in either order.
 
+use crate::board::{Board, Column, Values};
 use crate::telling;
 use differences::Apart;
-use rules::Window;
+use std::alloc::AllocError;
 use std::io;
 
-const VISITS: [&str; 2] = ["cleaning", "spare parts"];
+/// A day on which the spare parts have to come early.
+fn early(rt: &HostRuntime) -> Result<Board, AllocError> {
+    Board::of(
+        rt,
+        Values::Starts,
+        &[
+            Column::new("cleaning", 480, 530),
+            Column::new("spare parts", 500, 520),
+        ],
+    )
+}
 
-const EARLY: [Window; 2] = [
-    Window {
-        first: 480,
-        last: 530,
-    },
-    Window {
-        first: 500,
-        last: 520,
-    },
-];
-
-const LONG: [Window; 2] = [
-    Window {
-        first: 480,
-        last: 600,
-    },
-    Window {
-        first: 530,
-        last: 550,
-    },
-];
+/// A day that leaves the cleaning much time.
+fn long(rt: &HostRuntime) -> Result<Board, AllocError> {
+    Board::of(
+        rt,
+        Values::Starts,
+        &[
+            Column::new("cleaning", 480, 600),
+            Column::new("spare parts", 530, 550),
+        ],
+    )
+}
 
 /// Trims the starts of the two visits.
-fn trimmed(rt: &HostRuntime, apart: &mut Apart, given: [Window; 2]) -> io::Result<()> {
+fn trim(rt: &HostRuntime, apart: &mut Apart, board: &mut Board) -> io::Result<()> {
     println!(rt; "  The starts that are asked for:")?;
-    telling::starts(rt, &VISITS, &given)?;
-    let mut windows = given;
-    let outcome = rules::trim(apart, &mut windows);
-    telling::trimming(rt, "Apart", outcome, &VISITS, &windows)
+    board.list(rt)?;
+    board.trim(rt, "Apart", apart)
 }
 
 pub(crate) fn tell(rt: &HostRuntime) -> io::Result<()> {
@@ -48,11 +47,11 @@ pub(crate) fn tell(rt: &HostRuntime) -> io::Result<()> {
     )?;
     let mut apart = Apart::fresh();
     telling::setting(rt, "Apart", apart.set(2, 0, 1, 40))?;
-    trimmed(rt, &mut apart, EARLY)?;
+    trim(rt, &mut apart, &mut early(rt)?)?;
     println!(rt;
         "  The spare parts cannot come first, since 08:20 plus 40 minutes is after 08:50."
     )?;
-    trimmed(rt, &mut apart, LONG)?;
+    trim(rt, &mut apart, &mut long(rt)?)?;
     println!(rt;
         "  Nothing is struck: the cleaning may come first or last. Its start at 09:00 is in no plan all the same."
     )?;

@@ -1,33 +1,20 @@
 //! Visits that have to wait for one another.
 
-use crate::scenes::asked::{ASKED, VISITS};
+use crate::board::link;
+use crate::scenes::asked;
 use crate::telling;
 use differences::{Link, Links};
 use std::io;
 
-/// Column `left` is at most column `right` plus `bound`.
-const WAITS: [Link; 4] = [
-    Link {
-        left: 0,
-        right: 1,
-        bound: -30,
-    },
-    Link {
-        left: 1,
-        right: 2,
-        bound: -45,
-    },
-    Link {
-        left: 2,
-        right: 3,
-        bound: -20,
-    },
-    Link {
-        left: 3,
-        right: 0,
-        bound: 180,
-    },
-];
+/// How the visits wait for one another.
+fn waits() -> [Link; 4] {
+    [
+        link(0, 1, -30),
+        link(1, 2, -45),
+        link(2, 3, -20),
+        link(3, 0, 180),
+    ]
+}
 
 pub(crate) fn tell(rt: &HostRuntime) -> io::Result<()> {
     telling::title(rt, "2. Gaps between visits")?;
@@ -44,10 +31,8 @@ pub(crate) fn tell(rt: &HostRuntime) -> io::Result<()> {
         "  The inspection starts at most 180 minutes after the service: column 3 is at most column 0 plus 180."
     )?;
     let mut links = Links::fresh();
-    telling::setting(rt, "Links", links.set(4, &WAITS))?;
-    let mut windows = ASKED;
-    let outcome = rules::trim(&mut links, &mut windows);
-    telling::trimming(rt, "Links", outcome, &VISITS, &windows)?;
+    telling::setting(rt, "Links", links.set(4, &waits()))?;
+    asked::board(rt)?.trim(rt, "Links", &mut links)?;
     println!(rt;
         "  Links are full: whatever minute of its window is chosen for one visit, a plan has it."
     )

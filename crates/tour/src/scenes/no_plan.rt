@@ -1,28 +1,9 @@
 //! A day that has no plan.
 
+use crate::board::{Board, Column, Values, link};
 use crate::telling;
-use differences::{Link, Links};
-use rules::Window;
+use differences::Links;
 use std::io;
-
-const VISITS: [&str; 2] = ["milking machine service", "cooler check"];
-
-const ASKED: [Window; 2] = [
-    Window {
-        first: 360,
-        last: 420,
-    },
-    Window {
-        first: 360,
-        last: 380,
-    },
-];
-
-const WAITS: [Link; 1] = [Link {
-    left: 0,
-    right: 1,
-    bound: -30,
-}];
 
 pub(crate) fn tell(rt: &HostRuntime) -> io::Result<()> {
     telling::title(rt, "5. A day without a plan")?;
@@ -30,8 +11,14 @@ pub(crate) fn tell(rt: &HostRuntime) -> io::Result<()> {
         "  The cooler check starts at least 30 minutes after the service, and before 06:21."
     )?;
     let mut links = Links::fresh();
-    telling::setting(rt, "Links", links.set(2, &WAITS))?;
-    let mut windows = ASKED;
-    let outcome = rules::trim(&mut links, &mut windows);
-    telling::trimming(rt, "Links", outcome, &VISITS, &windows)
+    telling::setting(rt, "Links", links.set(2, &[link(0, 1, -30)]))?;
+    let mut board = Board::of(
+        rt,
+        Values::Starts,
+        &[
+            Column::new("milking machine service", 360, 420),
+            Column::new("cooler check", 360, 380),
+        ],
+    )?;
+    board.trim(rt, "Links", &mut links)
 }

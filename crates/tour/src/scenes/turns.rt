@@ -1,59 +1,37 @@
 //! Two rules on one board, asked in turn.
 
-use crate::scenes::asked::VISITS;
+use crate::board::{Board, Column, Values, link};
 use crate::telling;
 use differences::{Apart, Link, Links};
-use rules::Window;
+use std::alloc::AllocError;
 use std::io;
 
-const WAITS: [Link; 3] = [
-    Link {
-        left: 0,
-        right: 1,
-        bound: -30,
-    },
-    Link {
-        left: 1,
-        right: 2,
-        bound: -45,
-    },
-    Link {
-        left: 2,
-        right: 0,
-        bound: 100,
-    },
-];
+fn waits() -> [Link; 3] {
+    [link(0, 1, -30), link(1, 2, -45), link(2, 0, 100)]
+}
 
-const ASKED: [Window; 4] = [
-    Window {
-        first: 360,
-        last: 380,
-    },
-    Window {
-        first: 360,
-        last: 480,
-    },
-    Window {
-        first: 450,
-        last: 500,
-    },
-    Window {
-        first: 460,
-        last: 490,
-    },
-];
+fn asked(rt: &HostRuntime) -> Result<Board, AllocError> {
+    Board::of(
+        rt,
+        Values::Starts,
+        &[
+            Column::new("milking machine service", 360, 380),
+            Column::new("cooler check", 360, 480),
+            Column::new("cleaning", 450, 500),
+            Column::new("tank inspection", 460, 490),
+        ],
+    )
+}
 
 /// Asks the links and then the apart, once.
 fn turn(
     rt: &HostRuntime,
     links: &mut Links,
     apart: &mut Apart,
-    windows: &mut [Window; 4],
+    board: &mut Board,
 ) -> io::Result<()> {
-    let linked = rules::trim(links, windows);
-    telling::trimming(rt, "Links", linked, &VISITS, windows)?;
-    let parted = rules::trim(apart, windows);
-    telling::trimming(rt, "Apart", parted, &VISITS, windows)
+    board.trim(rt, "Links", links)?;
+    board.trim(rt, "Apart", apart)
 }
 
 pub(crate) fn tell(rt: &HostRuntime) -> io::Result<()> {
@@ -65,14 +43,14 @@ pub(crate) fn tell(rt: &HostRuntime) -> io::Result<()> {
         "  One crew cleans and inspects the tank, in either order, at least 40 minutes apart."
     )?;
     let mut links = Links::fresh();
-    telling::setting(rt, "Links", links.set(4, &WAITS))?;
+    telling::setting(rt, "Links", links.set(4, &waits()))?;
     let mut apart = Apart::fresh();
     telling::setting(rt, "Apart", apart.set(4, 2, 3, 40))?;
-    let mut windows = ASKED;
+    let mut board = asked(rt)?;
     println!(rt; "  The starts that are asked for:")?;
-    telling::starts(rt, &VISITS, &windows)?;
-    turn(rt, &mut links, &mut apart, &mut windows)?;
+    board.list(rt)?;
+    turn(rt, &mut links, &mut apart, &mut board)?;
     println!(rt; "  The cleaning has to be first now, so there is more for the links to strike.")?;
-    turn(rt, &mut links, &mut apart, &mut windows)?;
+    turn(rt, &mut links, &mut apart, &mut board)?;
     println!(rt; "  Neither rule would strike anything more.")
 }

@@ -1,0 +1,128 @@
+//! Boards as the tour tells them.
+
+use crate::clock::Clock;
+use crate::telling;
+use differences::Link;
+use rules::{Rule, Verdict, Window};
+use std::alloc::AllocError;
+use std::{fmt, io};
+
+/// What the values of a board are.
+#[derive(Clone, Copy)]
+pub enum Values {
+    /// Minutes of the day at which visits start.
+    Starts,
+    /// Minutes that works take.
+    Minutes,
+}
+
+impl fmt::Display for Values {
+    fn fmt<W: fmt::Write>(&self, f: &mut fmt::Formatter<W>) -> fmt::Result {
+        match self {
+            Values::Starts => f.write_str("starts"),
+            Values::Minutes => f.write_str("minutes"),
+        }
+    }
+}
+
+/// A visit or a work, and the window of its start or of its minutes.
+#[derive(Clone, Copy)]
+pub struct Column {
+    name: &'static str,
+    window: Window,
+}
+
+impl Column {
+    /// A column by its name and the ends of its window.
+    pub(crate) fn new(name: &'static str, first: i32, last: i32) -> Self {
+        Column {
+            name,
+            window: Window { first, last },
+        }
+    }
+}
+
+/// Column `left` is at most column `right` plus `bound`.
+pub(crate) fn link(left: usize, right: usize, bound: i32) -> Link {
+    Link { left, right, bound }
+}
+
+/// A window, told by what its values are.
+#[derive(Clone, Copy)]
+struct Told {
+    values: Values,
+    window: Window,
+}
+
+impl fmt::Display for Told {
+    fn fmt<W: fmt::Write>(&self, f: &mut fmt::Formatter<W>) -> fmt::Result {
+        let Window { first, last } = self.window;
+        match self.values {
+            Values::Starts => {
+                let from = Clock(first);
+                let to = Clock(last);
+                write!(f, "{from} to {to}  ({first} to {last})")
+            }
+            Values::Minutes => write!(f, "{first} to {last} minutes"),
+        }
+    }
+}
+
+/// The columns of a board, counted from 0.
+#[derive(Drop)]
+pub struct Board {
+    values: Values,
+    columns: Vec<Column>,
+}
+
+impl Board {
+    pub(crate) fn of(
+        rt: &HostRuntime,
+        values: Values,
+        columns: &[Column],
+    ) -> Result<Self, AllocError> {
+        Ok(Board {
+            values,
+            columns: columns.to_vec(rt.alloc())?,
+        })
+    }
+
+    /// Prints a line for each column: its number, its name and its window.
+    pub(crate) fn list(&self, rt: &HostRuntime) -> io::Result<()> {
+        for (number, column) in self.columns.iter().enumerate() {
+            let name = column.name;
+            let told = Told {
+                values: self.values,
+                window: column.window,
+            };
+            println!(rt; "    column {number}  {name:<24} {told}")?;
+        }
+        Ok(())
+    }
+
+    /// Trims the windows by a rule, and prints what it answers and the windows after that.
+    pub(crate) fn trim<R: Rule>(
+        &mut self,
+        rt: &HostRuntime,
+        name: &str,
+        rule: &mut R,
+    ) -> io::Result<()> {
+        // A rule takes the windows as one slice.
+        let mut windows: Vec<Window> = self.columns.iter().map(|c| c.window).collect(rt.alloc())?;
+        let values = self.values;
+        match rules::trim(rule, &mut windows) {
+            Ok(Verdict::Open) => println!(rt; "  {name}: open, and these {values} are left.")?,
+            Ok(Verdict::Void) => println!(rt;
+                "  {name}: void, there is no plan. The windows stay as they were."
+            )?,
+            Err(fault) => {
+                telling::refusal(rt, &fault)?;
+                println!(rt; "  The windows stay as they were.")?;
+            }
+        }
+        for (column, window) in self.columns.iter_mut().zip(&windows) {
+            column.window = *window;
+        }
+        self.list(rt)
+    }
+}
