@@ -1,12 +1,15 @@
 //! Checks with a known outcome, and how many of them went wrong.
 
-use crate::compare::{BOARDS, Claim, Comparison};
-use crate::table::Entries;
+use crate::compare::{BOARDS, Claim, Comparison, Trial};
+use crate::outcome::{Outcome, Setting, Trimming};
+use crate::random::Random;
+use crate::table::{Entries, Line};
 use crate::windows::Shown;
-use crate::{outcome, table};
-use rules::{Fault, Rule, Window};
-use std::alloc::Global;
-use std::io;
+use crate::words::Words;
+use anyhow::ensure;
+use rules::{Fault, Rule};
+use std::alloc::{AllocError, Global};
+use std::{fmt, io};
 
 /// Windows that a rule of two columns has to refuse.
 pub const REFUSED: &str = "
@@ -49,9 +52,10 @@ impl<'a> Checks<'a> {
     }
 
     /// Prints an outcome, and counts it as wrong where it is not the expected one.
-    fn judge(&mut self, found: &str, expected: &str) -> io::Result<()> {
+    fn judge<O: fmt::Display>(&mut self, outcome: &O, expected: &str) -> io::Result<()> {
         self.made = self.made.saturating_add(1);
-        if outcome::same(found, expected) {
+        let found = format!(in self.heap(); "{outcome}")?;
+        if found.as_str() == expected {
             return println!(self.rt; "{found}");
         }
         self.wrong = self.wrong.saturating_add(1);
@@ -65,73 +69,65 @@ impl<'a> Checks<'a> {
         set: Result<(), Fault>,
         expected: &str,
     ) -> io::Result<()> {
-        let found = outcome::of_setting(self.heap(), set)?;
         print!(self.rt; "  {name}: ")?;
-        self.judge(found.as_str(), expected)
+        self.judge(&Setting(set), expected)
     }
 
     /// Makes the checks of a table on one rule, a line after the other.
-    ///
-    /// The fields of a line are its name, a number of columns, entries, windows, and what comes of setting the rule and trimming the
-    /// windows by it. Where there is no number of columns, the rule is not set anew.
     pub(crate) fn table<R: Rule + Entries>(&mut self, rule: &mut R, table: &str) -> io::Result<()> {
-        for line in table.lines() {
-            if !line.is_empty() {
-                let set = self.set_by(rule, line)?;
-                let given = table::windows(self.heap(), table::field(line, 3))?;
-                let found = self.trim(rule, set.as_str(), given.as_slice())?;
-                let name = table::field(line, 0);
-                let shown = Shown(given.as_slice());
-                print!(self.rt; "  {name} [{shown}]: ")?;
-                self.judge(found.as_str(), table::field(line, 4))?;
-            }
+        for text in table.lines().filter(|text| !text.is_empty()) {
+            let line = Line::read(self.heap(), text)?;
+            self.line(rule, &line)?;
         }
         Ok(())
     }
 
-    /// Sets a rule by a line, and answers the outcome, or nothing where the line does not set it.
-    fn set_by<R: Entries>(&self, rule: &mut R, line: &str) -> io::Result<String> {
-        let columns = table::numbers(self.heap(), table::field(line, 1))?;
-        let entries = table::numbers(self.heap(), table::field(line, 2))?;
-        match columns.first() {
-            Some(columns) => {
-                let set = rule.set_entries(
-                    self.heap(),
-                    table::column(*columns)?,
-                    entries.as_slice(),
-                )?;
-                let found = outcome::of_setting(self.heap(), set)?;
-                Ok(format!(in self.heap(); "{found}, ")?)
-            }
-            None => Ok(String::new(self.heap())),
-        }
-    }
-
-    /// Trims windows by a rule, and answers the outcome behind that of setting the rule.
-    fn trim<R: Rule>(&self, rule: &mut R, set: &str, given: &[Window]) -> io::Result<String> {
-        let mut left = given.to_vec(self.heap())?;
+    /// Sets a rule and trims windows by it, as a line says.
+    fn line<R: Rule + Entries>(&mut self, rule: &mut R, line: &Line<'_>) -> io::Result<()> {
+        let heap = self.heap();
+        let entries = line.entries.as_slice();
+        let set = line
+            .columns
+            .map(|columns| rule.set_entries(heap, columns, entries))
+            .transpose()?;
+        let given = line.windows.as_slice();
+        let mut left = given.to_vec(heap)?;
         let answer = rules::trim(rule, &mut left);
-        let found = outcome::of_trim(self.heap(), answer, given, left.as_slice())?;
-        Ok(format!(in self.heap(); "{set}{found}")?)
+        let trimming = Trimming {
+            answer,
+            given,
+            left,
+        };
+        let name = line.name;
+        let shown = Shown(given);
+        print!(self.rt; "  {name} [{shown}]: ")?;
+        self.judge(&Outcome { set, trimming }, line.outcome)
     }
 
-    /// Begins a comparison with plain enumeration.
-    pub(crate) fn comparison(&self, claim: Claim) -> Comparison<'a> {
-        Comparison::new(self.rt, claim)
-    }
-
-    /// Ends a comparison: prints what was compared, and counts the boards.
-    pub(crate) fn compared(&mut self, comparison: &Comparison<'_>) -> io::Result<()> {
+    /// Compares a rule with plain enumeration on random boards, each as `draw` draws it.
+    pub(crate) fn boards<
+        R: Rule + Drop,
+        W: Words + Drop,
+        F: Fn(Global, &mut Random) -> Result<Trial<R, W>, AllocError>,
+    >(&mut self, seed: u64, claim: Claim, draw: F) -> io::Result<()>
+        requires { F.IsAlwaysCallable draw }
+    {
+        let mut random = Random::from_seed(seed);
+        let mut comparison = Comparison::new(self.rt, claim);
+        for _ in 0..BOARDS {
+            comparison.board(draw(self.heap(), &mut random)?)?;
+        }
         self.made = self.made.saturating_add(u64::from(BOARDS));
         self.wrong = self.wrong.saturating_add(comparison.differing());
         comparison.conclude()
     }
 
-    /// Prints how many checks were made and how many went wrong, and answers the second.
-    pub(crate) fn conclude(&self) -> io::Result<u64> {
+    /// Prints how many checks were made and how many went wrong, and is an error where one did.
+    pub(crate) fn conclude(&self) -> anyhow::Result<()> {
         let made = self.made;
         let wrong = self.wrong;
         println!(self.rt; "{made} checks and boards in all, {wrong} went wrong")?;
-        Ok(wrong)
+        ensure!(wrong == 0, "a check went wrong");
+        Ok(())
     }
 }

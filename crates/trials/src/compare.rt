@@ -1,10 +1,12 @@
 //! A rule against plain enumeration: every plan in the windows is tried by the words of the rule.
 
+use crate::outcome::Trimming;
+use crate::plans::Plans;
 use crate::windows::Shown;
 use crate::words::Words;
-use crate::{outcome, plans};
+use crate::wrong::Wrong;
 use rules::{Fault, Rule, Verdict, Window};
-use std::alloc::{AllocError, Global};
+use std::alloc::Global;
 use std::io;
 
 /// How many random boards a rule is compared on.
@@ -22,15 +24,40 @@ pub enum Claim {
     Full,
 }
 
-/// What was compared: boards by the rule's verdict, and values that were looked for in all plans.
+impl Claim {
+    /// Whether the value has to be in an allowed plan, where `left` is the window that the rule leaves of its column.
+    fn owes(self, left: Window, value: i32) -> bool {
+        match self {
+            Claim::Tight => value == left.first || value == left.last,
+            Claim::Full => left.first <= value && value <= left.last,
+        }
+    }
+}
+
+/// A rule with what setting it answered, the words that it was set to, and the windows of a board.
 #[derive(Drop)]
-pub struct Comparison<'a> {
-    rt: &'a HostRuntime,
-    claim: Claim,
+pub struct Trial<R, W> {
+    pub rule: R,
+    pub set: Result<(), Fault>,
+    pub words: W,
+    pub windows: Vec<Window>,
+}
+
+/// How much was compared: boards by the rule's verdict, values that were looked for in all plans, and boards that differ.
+#[derive(Clone, Copy, Default)]
+struct Tally {
     open: u64,
     void: u64,
     values: u64,
     differing: u64,
+}
+
+/// A comparison of a rule with plain enumeration.
+#[derive(Drop)]
+pub struct Comparison<'a> {
+    rt: &'a HostRuntime,
+    claim: Claim,
+    tally: Tally,
 }
 
 impl<'a> Comparison<'a> {
@@ -38,120 +65,115 @@ impl<'a> Comparison<'a> {
         Comparison {
             rt,
             claim,
-            open: 0,
-            void: 0,
-            values: 0,
-            differing: 0,
+            tally: Tally::default(),
         }
     }
 
     /// The allocator.
-    pub(crate) fn heap(&self) -> Global {
+    fn heap(&self) -> Global {
         self.rt.alloc()
     }
 
     /// How many boards differ.
     pub(crate) fn differing(&self) -> u64 {
-        self.differing
+        self.tally.differing
     }
 
     /// Trims the windows of a board by a rule, and prints the board where the rule and the enumeration differ.
-    /// `set` is the answer of setting the rule.
-    pub(crate) fn board<R: Rule, W: Words>(
+    pub(crate) fn board<R: Rule + Drop, W: Words + Drop>(
         &mut self,
-        set: Result<(), Fault>,
-        rule: &mut R,
-        words: &W,
-        given: &[Window],
+        trial: Trial<R, W>,
     ) -> io::Result<()> {
+        let Trial {
+            mut rule,
+            set,
+            words,
+            windows,
+        } = trial;
+        let given = windows.as_slice();
         let mut left = given.to_vec(self.heap())?;
-        let answer = match set {
-            Ok(()) => rules::trim(rule, &mut left),
-            Err(fault) => Err(fault),
+        let answer = set.and_then(|()| rules::trim(&mut rule, &mut left));
+        let trimming = Trimming {
+            answer,
+            given,
+            left,
         };
-        let Some(wrong) = self.judge(answer, words, given, left.as_slice())? else {
+        let mut plans = Plans::of(self.heap(), &words, given)?;
+        let Err(wrong) = self.judge(&trimming, &mut plans) else {
             return Ok(());
         };
-        self.differing = self.differing.saturating_add(1);
-        if self.differing > PRINTED {
+        self.tally.differing = self.tally.differing.saturating_add(1);
+        if self.tally.differing > PRINTED {
             return Ok(());
         }
         let before = Shown(given);
-        let found = outcome::of_trim(self.heap(), answer, given, left.as_slice())?;
-        println!(self.rt; "  DIFFERS: {words} [{before}]: {found}, but {wrong}")
+        println!(self.rt; "  DIFFERS: {words} [{before}]: {trimming}, but {wrong}")
     }
 
-    /// What is wrong with an answer, if anything.
+    /// Judges the answer of a rule by the plans in the windows given.
     fn judge<W: Words>(
         &mut self,
-        answer: Result<Verdict, Fault>,
-        words: &W,
-        given: &[Window],
-        left: &[Window],
-    ) -> Result<Option<&'static str>, AllocError> {
-        match answer {
-            Ok(verdict) => match verdict {
-                Verdict::Open => {
-                    self.open = self.open.saturating_add(1);
-                    self.judge_open(words, given, left)
-                }
-                Verdict::Void => {
-                    self.void = self.void.saturating_add(1);
-                    judge_void(self.heap(), words, given, left)
-                }
-            },
-            Err(_) => Ok(Some("nothing is to be refused")),
+        trimming: &Trimming<'_>,
+        plans: &mut Plans<'_, W>,
+    ) -> Result<(), Wrong> {
+        match trimming.answer {
+            Ok(Verdict::Open) => {
+                self.tally.open = self.tally.open.saturating_add(1);
+                self.judge_open(trimming, plans)
+            }
+            Ok(Verdict::Void) => {
+                self.tally.void = self.tally.void.saturating_add(1);
+                judge_void(trimming, plans)
+            }
+            Err(_) => Err(Wrong::Refused),
         }
     }
 
-    /// What is wrong with the windows that are left.
+    /// Judges the windows that are left.
     fn judge_open<W: Words>(
         &mut self,
-        words: &W,
-        given: &[Window],
-        left: &[Window],
-    ) -> Result<Option<&'static str>, AllocError> {
-        for (column, window) in left.iter().enumerate() {
-            let wrong = self.judge_column(words, given, column, window)?;
-            if wrong.is_some() {
-                return Ok(wrong);
-            }
+        trimming: &Trimming<'_>,
+        plans: &mut Plans<'_, W>,
+    ) -> Result<(), Wrong> {
+        for (column, (before, left)) in trimming.given.iter().zip(&trimming.left).enumerate() {
+            self.judge_column(plans, column, *before, *left)?;
         }
-        Ok(None)
+        Ok(())
     }
 
     /// Looks for each value that the column had before in all plans.
     fn judge_column<W: Words>(
         &mut self,
-        words: &W,
-        given: &[Window],
+        plans: &mut Plans<'_, W>,
         column: usize,
-        left: &Window,
-    ) -> Result<Option<&'static str>, AllocError> {
-        let Some(before) = given.get(column) else {
-            return Ok(Some("there are more windows than before"));
-        };
+        before: Window,
+        left: Window,
+    ) -> Result<(), Wrong> {
         if left.first < before.first || before.last < left.last || left.last < left.first {
-            return Ok(Some("a window is not inside what it was"));
+            return Err(Wrong::Wider);
         }
         for value in before.first..=before.last {
-            let held = plans::held(self.heap(), given, column, value)?;
-            let supported = plans::any_allowed(self.heap(), words, held.as_slice())?;
-            self.values = self.values.saturating_add(1);
-            let wrong = judge_value(self.claim, left, value, supported);
-            if wrong.is_some() {
-                return Ok(wrong);
+            let supported = plans.support(column, value);
+            self.tally.values = self.tally.values.saturating_add(1);
+            let kept = left.first <= value && value <= left.last;
+            if supported && !kept {
+                return Err(Wrong::Struck);
+            }
+            if !supported && self.claim.owes(left, value) {
+                return Err(Wrong::Unsupported);
             }
         }
-        Ok(None)
+        Ok(())
     }
 
     /// Prints what was compared.
     pub(crate) fn conclude(&self) -> io::Result<()> {
-        let open = self.open;
-        let void = self.void;
-        let values = self.values;
-        let differing = self.differing;
+        let Tally {
+            open,
+            void,
+            values,
+            differing,
+        } = self.tally;
         println!(self.rt;
             "  {open} boards open and {void} void, {values} values looked for in all plans"
         )?;
@@ -159,34 +181,13 @@ impl<'a> Comparison<'a> {
     }
 }
 
-/// What is wrong with a value, where `left` is the window that the rule leaves of its column.
-fn judge_value(claim: Claim, left: &Window, value: i32, supported: bool) -> Option<&'static str> {
-    let kept = left.first <= value && value <= left.last;
-    let owed = match claim {
-        Claim::Tight => value == left.first || value == left.last,
-        Claim::Full => kept,
-    };
-    if supported && !kept {
-        Some("a value of a plan is struck")
-    } else if owed && !supported {
-        Some("a value that is left is in no plan")
-    } else {
-        None
+/// Judges the answer that there is no plan.
+fn judge_void<W: Words>(trimming: &Trimming<'_>, plans: &mut Plans<'_, W>) -> Result<(), Wrong> {
+    if !trimming.stayed() {
+        return Err(Wrong::Moved);
     }
-}
-
-/// What is wrong with the answer that there is no plan.
-fn judge_void<W: Words>(
-    heap: Global,
-    words: &W,
-    given: &[Window],
-    left: &[Window],
-) -> Result<Option<&'static str>, AllocError> {
-    if given != left {
-        return Ok(Some("the windows are to stay"));
+    if plans.any_allowed() {
+        return Err(Wrong::Overlooked);
     }
-    if plans::any_allowed(heap, words, given)? {
-        return Ok(Some("there is a plan"));
-    }
-    Ok(None)
+    Ok(())
 }

@@ -18,13 +18,12 @@ mod sums;
 mod table;
 mod windows;
 mod words;
+mod wrong;
 
 use crate::checks::Checks;
-use anyhow::anyhow;
-use std::io;
 
-/// Makes every check, and answers how many went wrong.
-fn run(rt: &HostRuntime) -> io::Result<u64> {
+/// Makes every check.
+fn run(rt: &HostRuntime) -> anyhow::Result<()> {
     let mut checks = Checks::none(rt);
     links::check(&mut checks)?;
     apart::check(&mut checks)?;
@@ -33,8 +32,5 @@ fn run(rt: &HostRuntime) -> io::Result<u64> {
 }
 
 fn main(rt: HostRuntime) -> anyhow::Result<()> {
-    if run(&rt)? > 0 {
-        return Err(anyhow!("a check went wrong"));
-    }
-    Ok(())
+    run(&rt)
 }

@@ -3,76 +3,87 @@
 use crate::words::Words;
 use rules::Window;
 use std::alloc::{AllocError, Global};
+use std::mem;
 
 /// The number of values in a window.
 fn width(window: &Window) -> u64 {
     if window.first <= window.last {
-        (i64::from(window.last) - i64::from(window.first) + 1) as u64
+        u64::from(window.last.abs_diff(window.first)) + 1
     } else {
         0
     }
 }
 
-/// The number of plans that lie in the windows.
-fn count(windows: &[Window]) -> u64 {
-    let mut plans = 1u64;
-    for window in windows {
-        plans = plans.saturating_mul(width(window));
-    }
-    plans
+/// The plans in some windows, and the words that allow some of them.
+#[derive(Drop)]
+pub struct Plans<'a, W> {
+    words: &'a W,
+    windows: Vec<Window>,
+    // The plan that is looked at. It stands beside the windows, since the words take a plan as one slice.
+    plan: Vec<i32>,
 }
 
-/// The earliest plan: each column has its first value.
-fn earliest(heap: Global, windows: &[Window]) -> Result<Vec<i32>, AllocError> {
-    let mut plan = Vec::new(heap);
-    for window in windows {
-        plan.push(window.first)?;
+impl<'a, W: Words> Plans<'a, W> {
+    pub(crate) fn of(heap: Global, words: &'a W, windows: &[Window]) -> Result<Self, AllocError> {
+        Ok(Plans {
+            words,
+            windows: windows.to_vec(heap)?,
+            plan: windows.iter().map(|window| window.first).collect(heap)?,
+        })
     }
-    Ok(plan)
-}
 
-/// Goes on to the next plan: the last column that can rise does so, and the columns after it begin again.
-fn advance(plan: &mut [i32], windows: &[Window]) {
-    for i in (0..windows.len()).rev() {
-        if i < plan.len() {
-            if plan[i] < windows[i].last {
-                plan[i] += 1;
+    /// How many plans there are.
+    fn count(&self) -> u64 {
+        self.windows.iter().fold(1, |plans: u64, window| plans.saturating_mul(width(window)))
+    }
+
+    /// Begins with the earliest plan: each column has its first value.
+    fn begin(&mut self) {
+        for (value, window) in self.plan.iter_mut().zip(&self.windows) {
+            *value = window.first;
+        }
+    }
+
+    /// Goes on to the next plan: the last column that can rise does so, and the columns after it begin again.
+    fn advance(&mut self) {
+        for (value, window) in self.plan.iter_mut().zip(&self.windows).rev() {
+            if *value < window.last {
+                *value += 1;
                 return;
             }
-            plan[i] = windows[i].first;
+            *value = window.first;
         }
     }
-}
 
-/// Whether an allowed plan lies in the windows.
-pub(crate) fn any_allowed<W: Words>(
-    heap: Global,
-    words: &W,
-    windows: &[Window],
-) -> Result<bool, AllocError> {
-    let mut plan = earliest(heap, windows)?;
-    for _ in 0..count(windows) {
-        if words.allows(plan.as_slice()) {
-            return Ok(true);
+    /// Whether the words allow a plan in the windows.
+    pub(crate) fn any_allowed(&mut self) -> bool {
+        self.begin();
+        for _ in 0..self.count() {
+            if self.words.allows(self.plan.as_slice()) {
+                return true;
+            }
+            self.advance();
         }
-        advance(plan.as_mut_slice(), windows);
+        false
     }
-    Ok(false)
-}
 
-/// The windows with one column held at a value.
-pub(crate) fn held(
-    heap: Global,
-    windows: &[Window],
-    column: usize,
-    value: i32,
-) -> Result<Vec<Window>, AllocError> {
-    let mut held = windows.to_vec(heap)?;
-    if let Some(window) = held.get_mut(column) {
-        *window = Window {
+    /// Whether the words allow a plan in the windows that has the value in the column.
+    pub(crate) fn support(&mut self, column: usize, value: i32) -> bool {
+        let held = Window {
             first: value,
             last: value,
         };
+        let before = self.put(column, held);
+        let supported = self.any_allowed();
+        self.put(column, before);
+        supported
     }
-    Ok(held)
+
+    /// Puts a window in place of the column's, and answers that.
+    fn put(&mut self, column: usize, window: Window) -> Window {
+        match self.windows.get_mut(column) {
+            Some(place) => mem::replace(place, window),
+            None => window,
+        }
+    }
 }

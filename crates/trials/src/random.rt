@@ -24,31 +24,32 @@ impl Random {
     }
 
     /// A number below `count`, and 0 where that is 0.
-    pub(crate) fn below(&mut self, count: u8) -> u8
-        ensures { 1 ≤ count → result < count }
+    pub(crate) fn below(&mut self, count: usize) -> usize
+        ensures below { 1 ≤ count → result < count }
+        ensures within { result ≤ count }
     {
         if count == 0 {
             return 0;
         }
-        ((self.next() >> 32) % u64::from(count)) as u8
+        ((self.next() >> 32) % count as u64) as usize
     }
 
     /// One of `count` numbers from `least` upwards.
     pub(crate) fn upwards(&mut self, least: i32, count: u8) -> i32 {
-        least.saturating_add(i32::from(self.below(count)))
+        least.saturating_add(self.below(usize::from(count)) as i32)
     }
 
     /// Two different numbers, below `count` where that is 2 or more.
-    pub(crate) fn two_below(&mut self, count: u8) -> (usize, usize)
+    pub(crate) fn two_below(&mut self, count: usize) -> (usize, usize)
         ensures there { 2 ≤ count → (result.0 < count) × (result.1 < count) }
         ensures differ { result.0 ≢ result.1 }
     {
         let one = self.below(count);
         let other = self.below(count.saturating_sub(1));
         if other < one {
-            (usize::from(one), usize::from(other))
+            (one, other)
         } else {
-            (usize::from(one), usize::from(other).saturating_add(1))
+            (one, other.saturating_add(1))
         }
     }
 }

@@ -5,13 +5,52 @@ mod cases;
 mod words;
 
 use crate::checks::Checks;
+use crate::compare::Claim;
+use crate::sums::boards::{SEED, draw};
+use crate::sums::words::Order;
+use rules::{Fault, Rule};
 use std::io;
+use totals::{RisingSum, Sum};
+
+/// A rule that a total and its summands set.
+pub trait Total: Rule {
+    /// The order in which the words of the rule want the summands.
+    const ORDER: Order;
+
+    fn fresh() -> Self;
+
+    fn set(&mut self, columns: usize, total: usize, summands: &[usize]) -> Result<(), Fault>;
+}
+
+impl Total for Sum {
+    const ORDER: Order = Order::Any;
+
+    fn fresh() -> Self {
+        Sum::fresh()
+    }
+
+    fn set(&mut self, columns: usize, total: usize, summands: &[usize]) -> Result<(), Fault> {
+        Sum::set(self, columns, total, summands)
+    }
+}
+
+impl Total for RisingSum {
+    const ORDER: Order = Order::Rising;
+
+    fn fresh() -> Self {
+        RisingSum::fresh()
+    }
+
+    fn set(&mut self, columns: usize, total: usize, summands: &[usize]) -> Result<(), Fault> {
+        RisingSum::set(self, columns, total, summands)
+    }
+}
 
 pub(crate) fn check(checks: &mut Checks<'_>) -> io::Result<()> {
     checks.title("Sums, fixed cases")?;
     cases::check(checks)?;
     checks.title("Sums, random boards against plain enumeration")?;
-    boards::check_sums(checks)?;
+    checks.boards(SEED, Claim::Full, draw::<Sum>)?;
     checks.title("Rising sums, random boards against plain enumeration")?;
-    boards::check_rising(checks)
+    checks.boards(SEED, Claim::Full, draw::<RisingSum>)
 }

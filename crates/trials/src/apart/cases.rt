@@ -1,9 +1,9 @@
 //! Apart with known outcomes.
 
 use crate::checks::{Checks, REFUSED};
+use crate::outcome::Setting;
 use crate::table::{Entries, column, unreadable};
 use differences::Apart;
-use rules::Fault;
 use std::alloc::Global;
 use std::io;
 
@@ -14,11 +14,12 @@ impl Entries for Apart {
         _heap: Global,
         columns: usize,
         numbers: &[i32],
-    ) -> io::Result<Result<(), Fault>> {
-        let [one, other, gap] = numbers else {
+    ) -> io::Result<Setting> {
+        let [one, other, gap] = *numbers else {
             return Err(unreadable());
         };
-        Ok(self.set(columns, column(*one)?, column(*other)?, *gap))
+        let set = self.set(columns, column(one)?, column(other)?, gap);
+        Ok(Setting(set))
     }
 }
 
@@ -69,14 +70,15 @@ gap 60000000            |  2 | 0 1 60000000 | 0 5, 2 4 | set, void
 gap 1                   |  2 | 0 1 1        | 0 5, 2 4 | set, leaves 0..5, 2..4
 ";
 
+/// What the last line of the settings leaves.
+const AS_SET: &str = "
+as it was set           |    |              | 0 5, 2 4 | leaves 0..5, 2..4
+";
+
 pub(crate) fn check(checks: &mut Checks<'_>) -> io::Result<()> {
     let mut rule = Apart::fresh();
-    checks.table(&mut rule, TRIMS)?;
-    checks.table(&mut rule, FAR)?;
-    checks.table(&mut rule, SETTINGS)?;
-    checks.table(&mut rule, REFUSED)?;
-    checks.table(
-        &mut rule,
-        "as it was set | | | 0 5, 2 4 | leaves 0..5, 2..4",
-    )
+    for table in [TRIMS, FAR, SETTINGS, REFUSED, AS_SET] {
+        checks.table(&mut rule, table)?;
+    }
+    Ok(())
 }

@@ -1,9 +1,8 @@
 //! Random boards of links: some free, some with a ring, some with links that stand twice.
 
-use crate::board;
 use crate::board::Board;
 use crate::checks::Checks;
-use crate::compare::{BOARDS, Claim, Comparison};
+use crate::compare::{Claim, Trial};
 use crate::links::link;
 use crate::random::Random;
 use crate::words::Words;
@@ -22,10 +21,8 @@ struct LinkWords {
 impl fmt::Display for LinkWords {
     fn fmt<W: fmt::Write>(&self, f: &mut fmt::Formatter<W>) -> fmt::Result {
         f.write_str("links")?;
-        for link in self.links.as_slice() {
-            let left = link.left;
-            let right = link.right;
-            let bound = link.bound;
+        for link in &self.links {
+            let Link { left, right, bound } = *link;
             write!(f, " ({left}, {right}, {bound})")?;
         }
         Ok(())
@@ -42,105 +39,83 @@ fn keeps(link: &Link, plan: &[i32]) -> bool {
 
 impl Words for LinkWords {
     fn allows(&self, plan: &[i32]) -> bool {
-        for link in self.links.as_slice() {
-            if !keeps(link, plan) {
-                return false;
-            }
-        }
-        true
+        self.links.iter().all(|link| keeps(link, plan))
     }
 }
 
 /// A link between two different columns, with a bound that may bind.
-fn draw_link(random: &mut Random, board: &Board, columns: u8) -> Link {
-    let (left, right) = random.two_below(columns);
+fn draw_link(random: &mut Random, board: &Board) -> Link {
+    let (left, right) = random.two_below(board.width());
     let bound = random.upwards(board.distance(left, right).saturating_sub(5), 15);
     link(left, right, bound)
 }
 
 /// Up to six links.
-fn add_free(
-    links: &mut Vec<Link>,
-    random: &mut Random,
-    board: &Board,
-    columns: u8,
-) -> Result<(), AllocError> {
+fn add_free(links: &mut Vec<Link>, random: &mut Random, board: &Board) -> Result<(), AllocError> {
     for _ in 0..random.below(7) {
-        links.push(draw_link(random, board, columns))?;
+        links.push(draw_link(random, board))?;
     }
     Ok(())
 }
 
 /// A ring through all columns, of a length from -2 to 2.
-fn add_ring(
-    links: &mut Vec<Link>,
-    random: &mut Random,
-    board: &Board,
-    columns: u8,
-) -> Result<(), AllocError> {
+fn add_ring(links: &mut Vec<Link>, random: &mut Random, board: &Board) -> Result<(), AllocError> {
     let mut length = 0i32;
-    let mut left = 0usize;
-    for column in 1..columns {
-        let right = usize::from(column);
+    for right in 1..board.width() {
+        let left = right - 1;
         let bound = random.upwards(board.distance(left, right).saturating_sub(5), 11);
         length = length.saturating_add(bound);
         links.push(link(left, right, bound))?;
-        left = right;
     }
+    let last = board.width().saturating_sub(1);
     let wanted = random.upwards(-2, 5);
-    links.push(link(left, 0, wanted.saturating_sub(length)))?;
+    links.push(link(last, 0, wanted.saturating_sub(length)))?;
     Ok(())
 }
 
 /// The first link once more, and again with another bound.
 fn add_copies(links: &mut Vec<Link>, random: &mut Random) -> Result<(), AllocError> {
     if let Some(first) = links.first().copied() {
+        let bound = random.upwards(first.bound.saturating_sub(1), 3);
         links.push(first)?;
-        links.push(link(
-            first.left,
-            first.right,
-            random.upwards(first.bound.saturating_sub(1), 3),
-        ))?;
+        links.push(Link { bound, ..first })?;
     }
     Ok(())
 }
 
-fn draw_links(
-    heap: Global,
-    random: &mut Random,
-    board: &Board,
-    columns: u8,
-) -> Result<Vec<Link>, AllocError> {
+/// One list in four has a ring, and one in four has links that stand twice.
+fn draw_links(heap: Global, random: &mut Random, board: &Board) -> Result<Vec<Link>, AllocError> {
     let mut links = Vec::new(heap);
-    if columns < 2 {
+    if board.width() < 2 {
         return Ok(links);
     }
-    let kind = random.below(4);
-    if kind == 0 {
-        add_ring(&mut links, random, board, columns)?;
-    }
-    add_free(&mut links, random, board, columns)?;
-    if kind == 1 {
-        add_copies(&mut links, random)?;
+    match random.below(4) {
+        0 => {
+            add_ring(&mut links, random, board)?;
+            add_free(&mut links, random, board)?;
+        }
+        1 => {
+            add_free(&mut links, random, board)?;
+            add_copies(&mut links, random)?;
+        }
+        _ => add_free(&mut links, random, board)?,
     }
     Ok(links)
 }
 
-fn check_board(random: &mut Random, comparison: &mut Comparison<'_>) -> io::Result<()> {
+fn draw(heap: Global, random: &mut Random) -> Result<Trial<Links, LinkWords>, AllocError> {
     let columns = random.below(4).saturating_add(1);
-    let board = board::draw(comparison.heap(), random, columns)?;
-    let links = draw_links(comparison.heap(), random, &board, columns)?;
+    let board = Board::draw(heap, random, columns)?;
+    let links = draw_links(heap, random, &board)?;
     let mut rule = Links::fresh();
-    let set = rule.set(usize::from(columns), links.as_slice());
-    let words = LinkWords { links };
-    comparison.board(set, &mut rule, &words, board.windows())
+    Ok(Trial {
+        set: rule.set(columns, links.as_slice()),
+        rule,
+        words: LinkWords { links },
+        windows: board.windows(heap)?,
+    })
 }
 
 pub(crate) fn check(checks: &mut Checks<'_>) -> io::Result<()> {
-    let mut random = Random::from_seed(SEED);
-    let mut comparison = checks.comparison(Claim::Full);
-    for _ in 0..BOARDS {
-        check_board(&mut random, &mut comparison)?;
-    }
-    checks.compared(&comparison)
+    checks.boards(SEED, Claim::Full, draw)
 }

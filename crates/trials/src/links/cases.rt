@@ -2,9 +2,9 @@
 
 use crate::checks::{Checks, REFUSED};
 use crate::links::link;
+use crate::outcome::Setting;
 use crate::table::{Entries, column, unreadable};
 use differences::Links;
-use rules::Fault;
 use std::alloc::Global;
 use std::io;
 
@@ -15,15 +15,15 @@ impl Entries for Links {
         heap: Global,
         columns: usize,
         numbers: &[i32],
-    ) -> io::Result<Result<(), Fault>> {
+    ) -> io::Result<Setting> {
         let mut links = Vec::new(heap);
         for entry in numbers.chunks(3) {
-            let [left, right, bound] = entry else {
+            let [left, right, bound] = *entry else {
                 return Err(unreadable());
             };
-            links.push(link(column(*left)?, column(*right)?, *bound))?;
+            links.push(link(column(left)?, column(right)?, bound))?;
         }
-        Ok(self.set(columns, links.as_slice()))
+        Ok(Setting(self.set(columns, links.as_slice())))
     }
 }
 
@@ -86,10 +86,7 @@ too few values       |    | | 0 30, 0 30, 0 30, 0 30, 0 30, 0 30, 0 30, 0 30, 0 
 
 /// Lists of 256 links and more.
 fn check_lengths(checks: &mut Checks<'_>, rule: &mut Links) -> io::Result<()> {
-    let mut links = Vec::new(checks.heap());
-    for _ in 0..256 {
-        links.push(link(0, 1, -3))?;
-    }
+    let mut links = vec![in checks.heap(); link(0, 1, -3); 256]?;
     checks.setting("256 links", rule.set(2, links.as_slice()), "set")?;
     links.push(link(1, 1, 60_000_001))?;
     checks.setting(

@@ -1,50 +1,27 @@
 //! Sums with known outcomes.
 
 use crate::checks::{Checks, REFUSED};
+use crate::outcome::Setting;
+use crate::sums::Total;
 use crate::table::{Entries, column, unreadable};
-use rules::Fault;
 use std::alloc::Global;
 use std::io;
 use totals::{RisingSum, Sum};
 
-/// The columns of a field.
-fn columns_of(heap: Global, numbers: &[i32]) -> io::Result<Vec<usize>> {
-    let mut columns = Vec::new(heap);
-    for number in numbers {
-        columns.push(column(*number)?)?;
-    }
-    Ok(columns)
-}
-
-impl Entries for Sum {
+impl<T: Total> Entries for T {
     /// The entries are the total, then the summands.
     fn set_entries(
         &mut self,
         heap: Global,
         columns: usize,
         numbers: &[i32],
-    ) -> io::Result<Result<(), Fault>> {
+    ) -> io::Result<Setting> {
         let Some((total, summands)) = numbers.split_first() else {
             return Err(unreadable());
         };
-        let summands = columns_of(heap, summands)?;
-        Ok(self.set(columns, column(*total)?, summands.as_slice()))
-    }
-}
-
-impl Entries for RisingSum {
-    /// The entries are the total, then the summands.
-    fn set_entries(
-        &mut self,
-        heap: Global,
-        columns: usize,
-        numbers: &[i32],
-    ) -> io::Result<Result<(), Fault>> {
-        let Some((total, summands)) = numbers.split_first() else {
-            return Err(unreadable());
-        };
-        let summands = columns_of(heap, summands)?;
-        Ok(self.set(columns, column(*total)?, summands.as_slice()))
+        let summands: Vec<usize> = summands.iter().map(|n| column(*n)).try_collect(heap)?;
+        let set = self.set(columns, column(*total)?, summands.as_slice());
+        Ok(Setting(set))
     }
 }
 
@@ -84,13 +61,16 @@ the total as a summand |  3 | 2 1 2     | 0 0, 0 4, 5 6 | refused with 10 at 2, 
 one summand            |  2 | 0 1       | 0 5, 3 9 | set, leaves 3..5, 3..5
 ";
 
+/// What the rule has of its own, and what is refused of both.
+fn check_rule<T: Total + Drop>(checks: &mut Checks<'_>, own: &str) -> io::Result<()> {
+    let mut rule = T::fresh();
+    for table in [own, SETTINGS, REFUSED] {
+        checks.table(&mut rule, table)?;
+    }
+    Ok(())
+}
+
 pub(crate) fn check(checks: &mut Checks<'_>) -> io::Result<()> {
-    let mut sum = Sum::fresh();
-    checks.table(&mut sum, SUMS)?;
-    checks.table(&mut sum, SETTINGS)?;
-    checks.table(&mut sum, REFUSED)?;
-    let mut rising = RisingSum::fresh();
-    checks.table(&mut rising, RISING)?;
-    checks.table(&mut rising, SETTINGS)?;
-    checks.table(&mut rising, REFUSED)
+    check_rule::<Sum>(checks, SUMS)?;
+    check_rule::<RisingSum>(checks, RISING)
 }
