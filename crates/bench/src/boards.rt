@@ -16,7 +16,7 @@ fn board<const N: usize>(last: i32, total: Window) -> [Window; N] {
     windows
 }
 
-/// The error of a rule that could not be set.
+/// The error of a rule that could not be set. A fault is no `Error`, so `?` alone does not make one.
 fn unset(fault: Fault) -> anyhow::Error {
     anyhow!("{fault}")
 }

@@ -3,12 +3,14 @@
 mod boards;
 mod cases;
 
+use crate::apart::boards::{SEED, draw};
 use crate::checks::Checks;
+use crate::compare::Claim;
 use std::io;
 
 pub(crate) fn check(checks: &mut Checks<'_>) -> io::Result<()> {
     checks.title("Apart, fixed cases")?;
     cases::check(checks)?;
     checks.title("Apart, random boards against plain enumeration")?;
-    boards::check(checks)
+    checks.boards(SEED, Claim::Tight, draw)
 }

@@ -3,7 +3,7 @@
 use crate::compare::{BOARDS, Claim, Comparison, Trial};
 use crate::outcome::{Outcome, Setting, Trimming};
 use crate::random::Random;
-use crate::table::{Entries, Line};
+use crate::table::{Line, SetByEntries};
 use crate::windows::Shown;
 use crate::words::Words;
 use anyhow::ensure;
@@ -74,7 +74,11 @@ impl<'a> Checks<'a> {
     }
 
     /// Makes the checks of a table on one rule, a line after the other.
-    pub(crate) fn table<R: Rule + Entries>(&mut self, rule: &mut R, table: &str) -> io::Result<()> {
+    pub(crate) fn table<R: Rule + SetByEntries>(
+        &mut self,
+        rule: &mut R,
+        table: &str,
+    ) -> io::Result<()> {
         for text in table.lines().filter(|text| !text.is_empty()) {
             let line = Line::read(self.heap(), text)?;
             self.line(rule, &line)?;
@@ -83,12 +87,11 @@ impl<'a> Checks<'a> {
     }
 
     /// Sets a rule and trims windows by it, as a line says.
-    fn line<R: Rule + Entries>(&mut self, rule: &mut R, line: &Line<'_>) -> io::Result<()> {
+    fn line<R: Rule + SetByEntries>(&mut self, rule: &mut R, line: &Line<'_>) -> io::Result<()> {
         let heap = self.heap();
-        let entries = line.entries.as_slice();
-        let set = line
-            .columns
-            .map(|columns| rule.set_entries(heap, columns, entries))
+        let entries = line.entries.as_ref();
+        let set = entries
+            .map(|entries| rule.set_by(heap, entries))
             .transpose()?;
         let given = line.windows.as_slice();
         let mut left = given.to_vec(heap)?;

@@ -4,6 +4,8 @@ mod boards;
 mod cases;
 
 use crate::checks::Checks;
+use crate::compare::Claim;
+use crate::links::boards::{SEED, draw};
 use differences::Link;
 use std::io;
 
@@ -16,5 +18,5 @@ pub(crate) fn check(checks: &mut Checks<'_>) -> io::Result<()> {
     checks.title("Links, fixed cases")?;
     cases::check(checks)?;
     checks.title("Links, random boards against plain enumeration")?;
-    boards::check(checks)
+    checks.boards(SEED, Claim::Full, draw)
 }

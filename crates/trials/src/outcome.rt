@@ -3,6 +3,7 @@
 use crate::windows::Shown;
 use rules::{Fault, Verdict, Window};
 use std::fmt;
+use std::fmt::Display;
 
 /// A refusal: `refused with 3 at 1`, its number and its place.
 #[derive(Clone, Copy)]
@@ -24,10 +25,7 @@ impl fmt::Display for Setting {
     fn fmt<W: fmt::Write>(&self, f: &mut fmt::Formatter<W>) -> fmt::Result {
         match self.0 {
             Ok(()) => f.write_str("set"),
-            Err(fault) => {
-                let refusal = Refusal(fault);
-                write!(f, "{refusal}")
-            }
+            Err(fault) => Refusal(fault).fmt(f),
         }
     }
 }
@@ -54,10 +52,7 @@ impl<'a> fmt::Display for Trimming<'a> {
             Ok(Verdict::Open) => write!(f, "leaves {left}"),
             Ok(Verdict::Void) if self.stayed() => f.write_str("void"),
             Ok(Verdict::Void) => write!(f, "void, but the windows are now {left}"),
-            Err(fault) if self.stayed() => {
-                let refusal = Refusal(fault);
-                write!(f, "{refusal}")
-            }
+            Err(fault) if self.stayed() => Refusal(fault).fmt(f),
             Err(_) => write!(f, "refused, but the windows are now {left}"),
         }
     }
@@ -75,7 +70,6 @@ impl<'a> fmt::Display for Outcome<'a> {
         if let Some(set) = self.set {
             write!(f, "{set}, ")?;
         }
-        let trimming = &self.trimming;
-        write!(f, "{trimming}")
+        self.trimming.fmt(f)
     }
 }

@@ -6,19 +6,40 @@ use std::alloc::Global;
 use std::io;
 use std::io::ErrorKind;
 
-/// A rule that the numbers of a field can set.
-pub trait Entries {
-    /// Sets the rule, and answers what that came to. Numbers that are no entries are an error.
-    fn set_entries(&mut self, heap: Global, columns: usize, numbers: &[i32]) -> io::Result<Setting>;
+/// Entries that set a rule on so many columns.
+#[derive(Drop)]
+pub struct Entries {
+    pub columns: usize,
+    pub numbers: Vec<i32>,
 }
 
-/// A line of a table: its name, the entries that set the rule on so many columns, the windows that are trimmed, and what comes of
-/// both. Where there is no number of columns, the rule is not set anew.
+impl Entries {
+    /// Reads a number of columns and the numbers of the entries. Where there is no number of columns, there are no entries.
+    fn read(heap: Global, columns: &str, entries: &str) -> io::Result<Option<Self>> {
+        numbers(heap, columns)?
+            .first()
+            .map(|columns| -> io::Result<Entries> {
+                Ok(Entries {
+                    columns: column(*columns)?,
+                    numbers: numbers(heap, entries)?,
+                })
+            })
+            .transpose()
+    }
+}
+
+/// A rule that entries can set.
+pub trait SetByEntries {
+    /// Sets the rule, and answers what that came to. Numbers that are no entries of the rule are an error.
+    fn set_by(&mut self, heap: Global, entries: &Entries) -> io::Result<Setting>;
+}
+
+/// A line of a table: its name, the entries by which the rule is set anew, if it is, the windows that are trimmed, and what comes
+/// of both.
 #[derive(Drop)]
 pub struct Line<'a> {
     pub name: &'a str,
-    pub columns: Option<usize>,
-    pub entries: Vec<i32>,
+    pub entries: Option<Entries>,
     pub windows: Vec<Window>,
     pub outcome: &'a str,
 }
@@ -29,11 +50,9 @@ impl<'a> Line<'a> {
         let [name, columns, entries, windows, outcome] = fields.as_slice() else {
             return Err(unreadable());
         };
-        let columns = numbers(heap, columns)?;
         Ok(Line {
             name,
-            columns: columns.first().map(|number| column(*number)).transpose()?,
-            entries: numbers(heap, entries)?,
+            entries: Entries::read(heap, columns, entries)?,
             windows: read_windows(heap, windows)?,
             outcome,
         })

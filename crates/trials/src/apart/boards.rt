@@ -1,19 +1,18 @@
 //! Random boards with two columns apart.
 
 use crate::board::Board;
-use crate::checks::Checks;
-use crate::compare::{Claim, Trial};
+use crate::compare::Trial;
 use crate::random::Random;
 use crate::words::Words;
 use differences::Apart;
 use std::alloc::{AllocError, Global};
-use std::{fmt, io};
+use std::fmt;
 
-const SEED: u64 = 20_260_602;
+pub const SEED: u64 = 20_260_602;
 
 /// Apart, by its words.
 #[derive(Clone, Copy)]
-struct ApartWords {
+pub struct ApartWords {
     one: usize,
     other: usize,
     gap: i32,
@@ -45,7 +44,10 @@ fn draw_gap(random: &mut Random, distance: i32) -> i32 {
     random.upwards(least, 13).max(1)
 }
 
-fn draw(heap: Global, random: &mut Random) -> Result<Trial<Apart, ApartWords>, AllocError> {
+pub(crate) fn draw(
+    heap: Global,
+    random: &mut Random,
+) -> Result<Trial<Apart, ApartWords>, AllocError> {
     let columns = random.below(3).saturating_add(2);
     let board = Board::draw(heap, random, columns)?;
     let (one, other) = random.two_below(columns);
@@ -57,8 +59,4 @@ fn draw(heap: Global, random: &mut Random) -> Result<Trial<Apart, ApartWords>, A
         words: ApartWords { one, other, gap },
         windows: board.windows(heap)?,
     })
-}
-
-pub(crate) fn check(checks: &mut Checks<'_>) -> io::Result<()> {
-    checks.boards(SEED, Claim::Tight, draw)
 }

@@ -2,23 +2,18 @@
 
 use crate::checks::{Checks, REFUSED};
 use crate::outcome::Setting;
-use crate::table::{Entries, column, unreadable};
+use crate::table::{Entries, SetByEntries, column, unreadable};
 use differences::Apart;
 use std::alloc::Global;
 use std::io;
 
-impl Entries for Apart {
+impl SetByEntries for Apart {
     /// The entry is two columns and a gap.
-    fn set_entries(
-        &mut self,
-        _heap: Global,
-        columns: usize,
-        numbers: &[i32],
-    ) -> io::Result<Setting> {
-        let [one, other, gap] = *numbers else {
+    fn set_by(&mut self, _heap: Global, entries: &Entries) -> io::Result<Setting> {
+        let [one, other, gap] = *entries.numbers.as_slice() else {
             return Err(unreadable());
         };
-        let set = self.set(columns, column(one)?, column(other)?, gap);
+        let set = self.set(entries.columns, column(one)?, column(other)?, gap);
         Ok(Setting(set))
     }
 }

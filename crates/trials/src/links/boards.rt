@@ -1,20 +1,19 @@
 //! Random boards of links: some free, some with a ring, some with links that stand twice.
 
 use crate::board::Board;
-use crate::checks::Checks;
-use crate::compare::{Claim, Trial};
+use crate::compare::Trial;
 use crate::links::link;
 use crate::random::Random;
 use crate::words::Words;
 use differences::{Link, Links};
 use std::alloc::{AllocError, Global};
-use std::{fmt, io};
+use std::fmt;
 
-const SEED: u64 = 20_260_601;
+pub const SEED: u64 = 20_260_601;
 
 /// Links, by their words.
 #[derive(Drop)]
-struct LinkWords {
+pub struct LinkWords {
     links: Vec<Link>,
 }
 
@@ -103,7 +102,10 @@ fn draw_links(heap: Global, random: &mut Random, board: &Board) -> Result<Vec<Li
     Ok(links)
 }
 
-fn draw(heap: Global, random: &mut Random) -> Result<Trial<Links, LinkWords>, AllocError> {
+pub(crate) fn draw(
+    heap: Global,
+    random: &mut Random,
+) -> Result<Trial<Links, LinkWords>, AllocError> {
     let columns = random.below(4).saturating_add(1);
     let board = Board::draw(heap, random, columns)?;
     let links = draw_links(heap, random, &board)?;
@@ -114,8 +116,4 @@ fn draw(heap: Global, random: &mut Random) -> Result<Trial<Links, LinkWords>, Al
         words: LinkWords { links },
         windows: board.windows(heap)?,
     })
-}
-
-pub(crate) fn check(checks: &mut Checks<'_>) -> io::Result<()> {
-    checks.boards(SEED, Claim::Full, draw)
 }

@@ -3,27 +3,22 @@
 use crate::checks::{Checks, REFUSED};
 use crate::links::link;
 use crate::outcome::Setting;
-use crate::table::{Entries, column, unreadable};
+use crate::table::{Entries, SetByEntries, column, unreadable};
 use differences::Links;
 use std::alloc::Global;
 use std::io;
 
-impl Entries for Links {
+impl SetByEntries for Links {
     /// An entry is a left column, a right column and a bound.
-    fn set_entries(
-        &mut self,
-        heap: Global,
-        columns: usize,
-        numbers: &[i32],
-    ) -> io::Result<Setting> {
+    fn set_by(&mut self, heap: Global, entries: &Entries) -> io::Result<Setting> {
         let mut links = Vec::new(heap);
-        for entry in numbers.chunks(3) {
+        for entry in entries.numbers.chunks(3) {
             let [left, right, bound] = *entry else {
                 return Err(unreadable());
             };
             links.push(link(column(left)?, column(right)?, bound))?;
         }
-        Ok(Setting(self.set(columns, links.as_slice())))
+        Ok(Setting(self.set(entries.columns, links.as_slice())))
     }
 }
 

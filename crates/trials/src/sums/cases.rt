@@ -3,24 +3,19 @@
 use crate::checks::{Checks, REFUSED};
 use crate::outcome::Setting;
 use crate::sums::Total;
-use crate::table::{Entries, column, unreadable};
+use crate::table::{Entries, SetByEntries, column, unreadable};
 use std::alloc::Global;
 use std::io;
 use totals::{RisingSum, Sum};
 
-impl<T: Total> Entries for T {
+impl<T: Total> SetByEntries for T {
     /// The entries are the total, then the summands.
-    fn set_entries(
-        &mut self,
-        heap: Global,
-        columns: usize,
-        numbers: &[i32],
-    ) -> io::Result<Setting> {
-        let Some((total, summands)) = numbers.split_first() else {
+    fn set_by(&mut self, heap: Global, entries: &Entries) -> io::Result<Setting> {
+        let Some((total, summands)) = entries.numbers.split_first() else {
             return Err(unreadable());
         };
         let summands: Vec<usize> = summands.iter().map(|n| column(*n)).try_collect(heap)?;
-        let set = self.set(columns, column(*total)?, summands.as_slice());
+        let set = self.set(entries.columns, column(*total)?, summands.as_slice());
         Ok(Setting(set))
     }
 }
