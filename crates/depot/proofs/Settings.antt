@@ -1,5 +1,5 @@
 -- Which settings are refused, and by what.
-use Rattle.std.proofs.Common.{◌≡◌, ℕ, ◌<◌, ◌≤◌, true, false, ◌⊎◌, None, Ok, Option, sym, ap, subst, inl, inr, arith, rules}
+use Rattle.std.proofs.Common.{◌≡◌, ℕ, ◌<◌, true, false, None, Ok, Option, sym, ap, subst, arith, rules}
 use Rattle.std.proofs.lemmas.Bool.{lt-ltb, le-ltb, le-leb, lt-leb}
 use Rattle.std.proofs.lemmas.Bool.Decides.{nat_tests}
 use Rattle.rules.specs.declared.fault.Fault.{Fault}
@@ -9,10 +9,6 @@ use Rattle.depot.specs.Quarters.{hours_refusal, HoursJudged, column_count, no_co
 
 counted_is : (k : ℕ) → Counted k → counted k ≡ true
 counted_is k c = grind (arith, nat_tests)
-
-pub not_counted : (k : ℕ) → (k < 1) ⊎ ((1 ≤ k) × (32 < k)) → Counted k → ⊥
-not_counted k (inl l) c = omega arith
-not_counted k (inr l) c = omega arith
 
 module _ (columns column opens closes : ℕ) where
   -- the words say which fault it is

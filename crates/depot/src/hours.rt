@@ -7,8 +7,7 @@ ghost use Rattle.rules.specs.Meaning.{Narrowed};
 ghost use Rattle.depot.specs.Quarters.{QuartersLeft, hours_refusal, HoursJudged};
 ghost use Rattle.depot.specs.Hours.{quarter_meaning};
 
-use rules::window::MOST_COLUMNS;
-use rules::{Fault, Verdict, Window};
+use rules::{Fault, Verdict, Window, check_columns};
 
 /// The minutes of a quarter hour.
 const QUARTER: u32 = 15;
@@ -27,9 +26,7 @@ impl Hours {
         ensures value { result ≡ answer (hours_refusal columns self.now.column self.now.opens self.now.closes) }
         ensures law { HoursJudged columns self.now.column self.now.opens self.now.closes (hours_refusal columns self.now.column self.now.opens self.now.closes) }
     {
-        if columns < 1 || columns > MOST_COLUMNS {
-            return Err(Fault::ColumnCount);
-        }
+        check_columns(columns)?;
         if self.column >= columns {
             return Err(Fault::NoColumn(0));
         }
