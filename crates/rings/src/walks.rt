@@ -10,6 +10,7 @@ mod filling;
 mod rings;
 mod ties;
 
+// No heap: the room is that of the largest board.
 /// From one column to each: the length of a walk, or none.
 type Row = [Option<i64>; MOST_COLUMNS];
 

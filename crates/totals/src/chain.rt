@@ -12,6 +12,7 @@ use rules::window::MOST_COLUMNS;
 /// The distances of 1 to 32 columns of which some never fall in a given order: each of these is at most any that stands after it.
 ///
 /// The distance is 0 from a column to itself and to those before it in the order, else 60,000,000, which binds no two values.
+// No heap: the room is that of the largest board.
 #[derive(Clone, Copy)]
 pub struct Chain {
     columns: usize,

@@ -6,6 +6,8 @@ ghost use Rattle.totals.specs.Reaching.{Value, Near, Reachable, Least, limited, 
 /// A sum has at most so many summands.
 pub const MOST_SUMMANDS: usize = 31;
 
+// That a number is a value is asked of each caller: the numbers are ends of windows that are known to be lawful, and go on as ends.
+
 /// What one column leaves a summand: at most its top, and at most the column's value plus the way.
 #[derive(Clone, Copy)]
 pub struct Limit {

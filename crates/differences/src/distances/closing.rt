@@ -9,6 +9,8 @@ use crate::distances::Row;
 use crate::link::{FARTHEST, Link};
 use rules::window::MOST_COLUMNS;
 
+// The rows are lent, and no struct with ghost fields holds them yet: the check does not lend a row of such a struct.
+
 /// Lowers one entry of a row to `bound`.
 fn lower(row: &mut Row, column: usize, bound: i32)
     requires { column < 32 }
@@ -67,6 +69,7 @@ fn relax(row: &mut Row, through: &[i32], leg: i32) -> Option<()>
     requires leg { Near leg }
     ensures { MatchOption result (TooFar (length through.now) through.now leg) (λ _. Relaxed (length through.now) row.old through.now leg row.new) }
 {
+    // An index, not `zip`: after a `zip` over `iter_mut` nothing is known of what was written.
     for (j, rest) in through.iter().enumerate() {
         let sum = leg + *rest;
         if sum < -FARTHEST {
@@ -103,6 +106,7 @@ pub(super) fn close(rows: &mut [Row]) -> Option<()>
     requires zeros { (i : ℕ) → i < length rows.old → entry rows.old i i ≡ pos 0 }
     ensures { MatchOption result (NoValues (length rows.old) rows.old) (λ _. ClosedFrom (length rows.old) rows.old rows.new) }
 {
+    // A range, not the rows: each turn reads one row and writes all.
     for m in 0..rows.len() {
         pass(rows, m)?;
     }
