@@ -76,6 +76,7 @@ pub struct Board {
 }
 
 impl Board {
+    /// A board of such values, with its columns in this order.
     pub(crate) fn of(
         rt: &HostRuntime,
         values: Values,
@@ -107,7 +108,7 @@ impl Board {
         name: &str,
         rule: &mut R,
     ) -> io::Result<()> {
-        // A rule takes the windows as one slice.
+        // The names stay behind: a rule takes the windows as one slice.
         let mut windows: Vec<Window> = self.columns.iter().map(|c| c.window).collect(rt.alloc())?;
         let values = self.values;
         match rules::trim(rule, &mut windows) {
