@@ -1,7 +1,14 @@
 -- The first entry that fails a test, and the refusal of windows.
-use Rattle.std.proofs.Common.{◌≡◌, ℕ, zero, suc, ◌+◌, Bool, true, false, not, cond, eqb, List, [], ◌∷◌, length, Some, None, Ok, Err, Option, refl, ap, ◌∙◌, arith}
+use Rattle.std.proofs.Common.{◌≡◌, ℕ, zero, suc, ◌+◌, Bool, true, false, not, cond, eqb, List, [], ◌∷◌, length, Some, None, Ok, Err, Option, MatchOption, Bor, Iter, refl, ap, ◌∙◌, arith}
 use Rattle.std.specs.Option.{option_map}
-use Rattle.std.specs.List.{AllWithin}
+use denote.Param.Members.{Mut}
+use Rattle.std.specs.Fn.{Called}
+use Rattle.std.specs.Iterator.{YieldsThen}
+use Rattle.std.specs.Slice.Iter.{iter_rest}
+use Rattle.std.specs.List.{AllWithin, FoldsTo}
+use Rattle.std.proofs.lemmas.Fn.{fronts}
+use Rattle.std.proofs.lemmas.Iterator.{YieldsList-from_slice}
+use Rattle.std.proofs.lemmas.Iterator.Search.{position_from_yields_List}
 use Rattle.std.specs.List.{position, position_from}
 use Rattle.std.proofs.lemmas.Iterator.Adapters.{position_from-zero}
 use Rattle.std.proofs.lemmas.Bool.{and_from, and_parts, eqb-true, eqb-false, eq-eqb}
@@ -66,8 +73,15 @@ module _ {X : Type 0} (test : X → Bool) where
   option_same None = refl
   option_same (Some k) = ap Some (omega arith)
 
-  pub position_failing : (xs : List X) → position (λ x. not (test x)) xs ≡ first_failing test xs
+  position_failing : (xs : List X) → position (λ x. not (test x)) xs ≡ first_failing test xs
   position_failing xs = position_from-zero (λ x. not (test x)) xs ∙ from_failing 0 xs ∙ option_same (first_failing test xs)
+
+-- what `position` finds in a slice for a closure that fails where the test does
+module _ {X F : Type 0} {g : Mut F (Bor X × Unit {0}) Bool} {s : Iter X} (test : X → Bool) (xs : List X) (u : Iter X) (f : F) where
+  pub first_by : (r : Option ℕ)
+      → (ys : List (Bor X)) × (o : Option (Bor X)) × (j : F) × YieldsThen fronts s ys o u × FoldsTo (λ p y q. Called g p (y, tt) false q) f ys j × MatchOption o (r ≡ None) (λ y. (r ≡ Some (length ys)) × ((h : F) × Called g j (y, tt) true h))
+      → iter_rest s ≡ xs → ((y : Bor X) (b : Bool) (q : F) → Called g f (y, tt) b q → (q ≡ f) × (b ≡ not (test y.now))) → r ≡ first_failing test xs
+  first_by r ran rest called = position_from_yields_List (λ x. not (test x)) u f r ran (YieldsList-from_slice xs rest) called ∙ position_failing test xs
 
 pub every_lawful : (ws : List Window) → AllWithin (λ w. lawful w ≡ true) ws 0 (length ws) → all_lawful ws ≡ true
 every_lawful [] f = refl
