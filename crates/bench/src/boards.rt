@@ -42,11 +42,7 @@ pub(crate) fn sum_of_31<R: Rule, F: FnOnce(&mut R, usize, usize, &[usize]) -> Re
 /// Thirty columns, each below the next, whose total is fifteen times the width of their windows.
 pub(crate) fn linked_sum(measure: &Measure<'_>, name: &str, width: i32) -> anyhow::Result<()> {
     let summands: [usize; 30] = array::from_fn(|i| i);
-    let links: [Link; 29] = array::from_fn(|i| Link {
-        left: i,
-        right: i.saturating_add(1),
-        bound: -1,
-    });
+    let links: [Link; 29] = array::from_fn(|i| Link::new(i, i.saturating_add(1), -1));
     let mut rule = LinkedSum::fresh();
     rule.set(31, 30, &summands, &links).map_err(unset)?;
     let all = width.saturating_mul(15);

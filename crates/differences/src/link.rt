@@ -15,6 +15,15 @@ pub struct Link {
 }
 
 impl Link {
+    /// Column `left` is at most column `right` plus `bound`.
+    pub fn new(left: usize, right: usize, bound: i32) -> Link
+        ensures left { result.left ≡ left }
+        ensures right { result.right ≡ right }
+        ensures bound { result.bound ≡ bound }
+    {
+        Link { left, right, bound }
+    }
+
     /// Both columns are there.
     pub fn is_present(&self, columns: usize) -> bool
         ensures { result ≡ present columns self.now }

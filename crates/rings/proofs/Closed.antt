@@ -1,6 +1,6 @@
 -- What a closed table of walks tells of rings and ties.
 use Rattle.std.proofs.Common.{◌≡◌, ℕ, zero, suc, ◌<◌, Bool, true, false, not, ◌&&◌, eqb, List, [], ◌∷◌, ℤ, pos, ◌+ℤ◌, nat_abs, ◌≤ℤ◌, ◌<ℤ◌, is_some, Some, None, Option, sym, refl, subst, ⊎_elim, arith}
-use Rattle.std.specs.List.{list_any, range_with_len, ContainsAt as Has}
+use Rattle.std.specs.List.{list_any, range_with_len, ContainsAt}
 use Rattle.std.proofs.lemmas.List.Folds.{Any-from_list_any, list_any-from_Any}
 use Rattle.std.proofs.lemmas.List.FromFn.{length-range_with_len, get_or-range_with_len}
 use Rattle.std.proofs.lemmas.Int.{ints, by_lt_z}
@@ -52,8 +52,8 @@ zero_from (Some u) (Some v) x y e f s =
     let r : u +ℤ v ≡ pos 0 = omega (arith, ints) in
     rw r
 
-module _ (k : ℕ) (links : List Link) (good : (l : Link) → Has links l → (l.right < k) × (l.left < k)) (d : ℕ → ℕ → Option ℤ) (w : Walks k links k d) where
-  first_link : (i : ℕ) (l : Link) → Has links l → l.right ≡ i → is_some (d i l.left) ≡ true
+module _ (k : ℕ) (links : List Link) (good : (l : Link) → ContainsAt links l → (l.right < k) × (l.left < k)) (d : ℕ → ℕ → Option ℤ) (w : Walks k links k d) where
+  first_link : (i : ℕ) (l : Link) → ContainsAt links l → l.right ≡ i → is_some (d i l.left) ≡ true
   first_link i l a e = subst (λ (n : ℕ). is_some (d n l.left) ≡ true) e (most_some _ _ (w.single l a))
 
   ends : (i j : ℕ) (l : Link) (v : List Link) → IsWalk links i j (l ∷ v) → j < k

@@ -1,6 +1,6 @@
 -- The loops that enter links into a table of walks and close it.
 use Rattle.std.proofs.Common.{◌≡◌, ℕ, ◌+◌, ◌*◌, ◌^◌, ◌<◌, ◌≤◌, List, [], ◌∷◌, length, get_or, set, ℤ, pos, Some, None, Option, sym, refl, ap, ◌∙◌, subst, ⊎_elim, arith, get_or-set_other, get_or-set_same, pow_mono, pow-add}
-use Rattle.std.specs.List.{ContainsAt as Has}
+use Rattle.std.specs.List.{ContainsAt}
 use Rattle.std.proofs.lemmas.Int.{ints, clamps}
 use Rattle.std.proofs.lemmas.Bool.{cases_eq}
 use Rattle.differences.specs.declared.link.Link.{Link}
@@ -73,7 +73,7 @@ entering_none k links t b =
 
 -- what one note makes of an entry: that of the link, or none
 module _ (k : ℕ) (links : List Link) (t : List (List (Option ℤ))) (n : ℕ) (link : Link) (row : List (Option ℤ)) (few : k ≤ length t)
-    (has : Has links link) (good : GoodLinks k links)
+    (has : ContainsAt links link) (good : GoodLinks k links)
     (bound : ℤ) (bound-is : bound ≡ link.bound) (same : entry row link.left ≡ shorter (entry (get_or t link.right []) link.left) (Some bound))
     (other : (j : ℕ) → (j ≡ link.left → ⊥) → entry row j ≡ entry (get_or t link.right []) j) where
   now : List (List (Option ℤ))

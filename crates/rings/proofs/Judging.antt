@@ -1,6 +1,6 @@
 -- From what the closed table shows to rings and ties.
 use Rattle.std.proofs.Common.{◌≡◌, ℕ, ◌<◌, true, List, ℤ, Some, None, Option, arith}
-use Rattle.std.specs.List.{ContainsAt as Has}
+use Rattle.std.specs.List.{ContainsAt}
 use Rattle.std.proofs.lemmas.Bool.{and_parts, and_from, both_ways, ltb-true, lt-ltb}
 use Rattle.rules.specs.declared.fault.Fault.TheVariants.{NegativeRing, TiedSummands}
 use Rattle.differences.specs.declared.link.Link.{Link}
@@ -10,7 +10,7 @@ use Rattle.rings.proofs.Closed.{ring, no_ring, tie_shown, shown_tie}
 use Rattle.rings.proofs.Ties.{tie_some, some_tie, tied_parts, tied_from}
 
 module _ (k : ℕ) (links : List Link) (g : GoodLinks k links) (d : ℕ → ℕ → Option ℤ) (w : Walks k links k d) (ss : List ℕ) where
-  good : (l : Link) → Has links l → (l.right < k) × (l.left < k)
+  good : (l : Link) → ContainsAt links l → (l.right < k) × (l.left < k)
   good l a = (g.right l a, g.left l a)
 
   pub judged_ring : (i : ℕ) → FirstBelow k (on_ring_below k d) (Some i) → RingsJudged k links ss (Some (NegativeRing i))

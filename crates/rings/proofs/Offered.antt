@@ -1,6 +1,6 @@
 -- Links that were not refused, and a table that holds no walk yet.
 use Rattle.std.proofs.Common.{◌≡◌, ℕ, zero, suc, ◌<◌, ◌≤◌, List, [], get_or, replicate, ℤ, pos, negsuc, ◌≤ℤ◌, Some, None, Err, Option, Result, sym, refl, ap, ◌∙◌, subst, arith, MatchOption}
-use Rattle.std.specs.List.{ContainsAt as Has}
+use Rattle.std.specs.List.{ContainsAt}
 use Rattle.std.proofs.lemmas.List.{get_or-replicate}
 use Rattle.rules.specs.declared.fault.Fault.{Fault}
 use Rattle.rules.specs.Refusals.{answer}
@@ -16,7 +16,7 @@ pub record Taken (k : ℕ) (links : List Link) : Type 0 where
   pub some : 1 ≤ k
   pub few : k ≤ 32
   pub good : GoodLinks k links
-  pub two : (l : Link) → Has links l → l.right ≡ l.left → ⊥
+  pub two : (l : Link) → ContainsAt links l → l.right ≡ l.left → ⊥
 
 pub taken : (k : ℕ) (links : List Link) → links_refusal k links ≡ None → Taken k links
 taken k links e =

@@ -3,7 +3,7 @@ use Rattle.std.proofs.Common.{◌≡◌, ℕ, ◌+◌, ◌<◌, Bool, true, ◌�
 use Rattle.std.specs.Int.{int_min}
 use Rattle.std.proofs.lemmas.Int.{ints, clamps, by_lt_z}
 use Rattle.std.proofs.lemmas.Bool.{cases_eq}
-use Rattle.std.specs.List.{ContainsAt as Has}
+use Rattle.std.specs.List.{ContainsAt}
 use Rattle.differences.specs.declared.link.Link.{Link}
 use Rattle.rings.specs.Rings.{IsWalk, walk_length, Walk}
 use Rattle.rings.specs.Tables.{AtMost, joined, shorter, Stepped, Convex, NoneBelow, Walks}
@@ -202,7 +202,7 @@ module _ (k : ℕ) (links : List Link) (m : ℕ) (hm : m < k) (d e : ℕ → ℕ
         (cases_eq n m)
 
   -- the ways by one more column are entered
-  pub walks_step : ((l : Link) → Has links l → (l.right < k) × (l.left < k)) → Walks k links (m + 1) e
+  pub walks_step : ((l : Link) → ContainsAt links l → (l.right < k) × (l.left < k)) → Walks k links (m + 1) e
   walks_step good =
       record {
         sound = sound;

@@ -1,6 +1,6 @@
 -- Links with no ring below 0 have a shortest walk between each two columns that a walk joins.
 use Rattle.std.proofs.Common.{◌≡◌, ℕ, zero, suc, ◌<◌, ◌≤◌, Bool, true, false, cond, ◌&&◌, eqb, ◌⊎◌, List, [], ◌∷◌, ℤ, pos, ◌+ℤ◌, ◌≤ℤ◌, Some, None, Option, sym, refl, ap, ◌∙◌, subst, inl, inr, ⊎_elim, add-one, arith}
-use Rattle.std.specs.List.{ContainsAt as Has}
+use Rattle.std.specs.List.{ContainsAt}
 use Rattle.std.proofs.lemmas.Int.{ints, clamps, by_lt_z}
 use Rattle.std.proofs.lemmas.Bool.{cases_eq, eqb-true, eq-eqb, ne_eqb, and_parts, cond-true, cond-false}
 use Rattle.differences.specs.declared.link.Link.{Link}
@@ -19,7 +19,7 @@ pub record OnWays (k : ℕ) (w : ℕ → ℕ → Option ℤ) (x : ℕ → ℤ) :
 
 -- the values x keep the link
 abbrev pub Links : List Link → (ℕ → ℤ) → Type 0
-Links links x = (l : Link) → Has links l → x l.left ≤ℤ (x l.right +ℤ l.bound)
+Links links x = (l : Link) → ContainsAt links l → x l.left ≤ℤ (x l.right +ℤ l.bound)
 
 -- the ways of the links
 pub record WaysOf (k : ℕ) (links : List Link) (w : ℕ → ℕ → Option ℤ) : Type 0 where
@@ -55,7 +55,7 @@ either (Some x) (Some y) v e =
     ⊎_elim inl (λ (a, b, f, g, s). inr (let h : y ≡ v = (let c : y ≡ a = cc in let d : pos 0 ≡ b = cc in omega (arith, ints)) in ap Some h))
     (came (Some x) (Some y) (Some (pos 0)) v (ap (λ z. shorter (Some x) (Some z)) (omega (arith, ints)) ∙ e))
 
-start_sound : (links ls : List Link) → ((l : Link) → Has ls l → Has links l) → (i j : ℕ) (v : ℤ) → start ls i j ≡ Some v → Walk links i j v
+start_sound : (links ls : List Link) → ((l : Link) → ContainsAt ls l → ContainsAt links l) → (i j : ℕ) (v : ℤ) → start ls i j ≡ Some v → Walk links i j v
 unfolding start
 start_sound links [] sub i j v e = let z : ◌≡◌ {A = ℕ} 0 1 = cc in absurd (omega arith)
 start_sound links (l ∷ ls) sub i j v e =
@@ -72,7 +72,7 @@ most_either (Some x) (Some y) z h = omega (arith, ints, clamps)
 one_most : (l : Link) → AtMost (one l l.right l.left) l.bound
 one_most l = rw (eq-eqb l.right l.right refl, eq-eqb l.left l.left refl) (omega (arith, ints))
 
-start_single : (ls : List Link) (l : Link) → Has ls l → AtMost (start ls l.right l.left) l.bound
+start_single : (ls : List Link) (l : Link) → ContainsAt ls l → AtMost (start ls l.right l.left) l.bound
 unfolding start
 start_single [] l (n, h, f) = absurd (omega arith)
 start_single (m ∷ ls) l (zero, h, f) =
@@ -89,7 +89,7 @@ start_walks k links =
       short = λ C cv nb i m j hi hm hj lt ci cm cj a b p q. absurd (omega arith);
     }
 
-module _ (k : ℕ) (links : List Link) (good : (l : Link) → Has links l → (l.right < k) × (l.left < k)) where
+module _ (k : ℕ) (links : List Link) (good : (l : Link) → ContainsAt links l → (l.right < k) × (l.left < k)) where
   closing_walks : (m : ℕ) → m ≤ k → Walks k links m (closing m (start links))
   unfolding closing
   closing_walks zero h = start_walks k links
@@ -168,10 +168,10 @@ module _ (k : ℕ) (links : List Link) (good : (l : Link) → Has links l → (l
       (λ ne. told.sound i j hi hj v (sym (way_other i j ne) ∙ e))
       (cases_eq i j)
 
-  single_way : (l : Link) → Has links l → (l.right ≡ l.left → ⊥) → AtMost (way l.right l.left) l.bound
+  single_way : (l : Link) → ContainsAt links l → (l.right ≡ l.left → ⊥) → AtMost (way l.right l.left) l.bound
   single_way l h ne = subst (λ (o : Option ℤ). AtMost o l.bound) (sym (way_other l.right l.left ne)) (told.single l h)
 
-  ways_of : RingPlace k links None → ((l : Link) → Has links l → l.right ≡ l.left → ⊥) → WaysOf k links way
+  ways_of : RingPlace k links None → ((l : Link) → ContainsAt links l → l.right ≡ l.left → ⊥) → WaysOf k links way
   ways_of none two =
       record {
         ways = record { zeros = λ i hi. way_same i; short = way_short none };
@@ -185,5 +185,5 @@ module _ (k : ℕ) (links : List Link) (good : (l : Link) → Has links l → (l
       }
 
   -- such ways, whatever they are
-  pub some_ways : RingPlace k links None → ((l : Link) → Has links l → l.right ≡ l.left → ⊥) → (w : ℕ → ℕ → Option ℤ) × WaysOf k links w
+  pub some_ways : RingPlace k links None → ((l : Link) → ContainsAt links l → l.right ≡ l.left → ⊥) → (w : ℕ → ℕ → Option ℤ) × WaysOf k links w
   some_ways none two = (way, ways_of none two)

@@ -1,6 +1,6 @@
 -- Walks along links, and rings: closed walks.
 use Rattle.std.specs.Prelude.{◌≡◌, ℕ, ◌<◌, List, [], ◌∷◌, ℤ, pos, ◌+ℤ◌, ◌<ℤ◌, Some, None, Err, Option, Result, MatchOption}
-use Rattle.std.specs.List.{ContainsAt as Has}
+use Rattle.std.specs.List.{ContainsAt}
 use Rattle.rules.specs.declared.fault.Fault.{Fault}
 use Rattle.rules.specs.declared.fault.Fault.TheVariants.{NegativeRing, TiedSummands}
 use Rattle.rules.specs.Refusals.{answer}
@@ -10,7 +10,7 @@ use Rattle.differences.specs.declared.link.Link.{Link}
 -- the links of the list w lead from column i to column j; a link leads from its right column to its left one
 abbrev pub IsWalk : List Link → ℕ → ℕ → List Link → Type 0
 IsWalk links i j [] = i ≡ j
-IsWalk links i j (l ∷ w) = Has links l × (l.right ≡ i) × IsWalk links l.left j w
+IsWalk links i j (l ∷ w) = ContainsAt links l × (l.right ≡ i) × IsWalk links l.left j w
 
 -- the length of a walk: the sum of its bounds
 abbrev pub walk_length : List Link → ℤ
@@ -46,8 +46,8 @@ RingPlace k links (Some i) = (i < k) × RingBelow links i × ((j : ℕ) → j < 
 pub record TiedSummand (k : ℕ) (links : List Link) (summands : List ℕ) (p : ℕ) : Type 0 where
   pub other : ℕ
   pub there : other < k
-  pub named : Has summands p
-  pub also : Has summands other
+  pub named : ContainsAt summands p
+  pub also : ContainsAt summands other
   pub apart : p ≡ other → ⊥
   pub tied : Tied links p other
 

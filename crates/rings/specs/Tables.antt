@@ -1,7 +1,7 @@
 -- The table of walks: for two columns the length of a walk that leads from one to the other, or none.
 use Rattle.std.specs.Prelude.{◌≡◌, ℕ, ◌<◌, Bool, true, false, not, ◌&&◌, ◌||◌, List, [], ℤ, pos, negsuc, ◌+ℤ◌, ◌≤ℤ◌, is_some, Some, None, Option, IfSome, ◌==◌, int_lt, nat_lt, slice_index_or}
 use Rattle.std.specs.Int.{int_min}
-use Rattle.std.specs.List.{list_any, range_with_len, ContainsAt as Has}
+use Rattle.std.specs.List.{list_any, range_with_len, ContainsAt}
 use Rattle.std.specs.Ordering.{int_eq}
 use Rattle.differences.specs.declared.link.Link.{Link}
 use Rattle.rings.specs.Rings.{Walk}
@@ -44,7 +44,7 @@ NoneBelow k C d = (i : ℕ) → i < k → C i ≡ true → (v : ℤ) → d i i �
 -- what the table says of the links once the ways by the first m columns are entered
 pub record Walks (k : ℕ) (links : List Link) (m : ℕ) (d : ℕ → ℕ → Option ℤ) : Type 0 where
   pub sound : (i j : ℕ) → i < k → j < k → (v : ℤ) → d i j ≡ Some v → Walk links i j v
-  pub single : (l : Link) → Has links l → AtMost (d l.right l.left) l.bound
+  pub single : (l : Link) → ContainsAt links l → AtMost (d l.right l.left) l.bound
   pub reach : (i n j : ℕ) → i < k → n < k → j < k → n < m → is_some (d i n) ≡ true → is_some (d n j) ≡ true → is_some (d i j) ≡ true
   pub short : (C : ℕ → Bool) → Convex links k C → NoneBelow k C d → (i n j : ℕ) → i < k → n < k → j < k → n < m
       → C i ≡ true → C n ≡ true → C j ≡ true → (a b : ℤ) → d i n ≡ Some a → d n j ≡ Some b → AtMost (d i j) (a +ℤ b)
@@ -112,10 +112,10 @@ pub record Blank (k : ℕ) (t : List (List (Option ℤ))) : Type 0 where
 
 -- the links name columns below k, and their bounds lie from -60,000,000 to 60,000,000
 pub record GoodLinks (k : ℕ) (links : List Link) : Type 0 where
-  pub right : (l : Link) → Has links l → l.right < k
-  pub left : (l : Link) → Has links l → l.left < k
-  pub low : (l : Link) → Has links l → negsuc 59999999 ≤ℤ l.bound
-  pub high : (l : Link) → Has links l → l.bound ≤ℤ pos 60000000
+  pub right : (l : Link) → ContainsAt links l → l.right < k
+  pub left : (l : Link) → ContainsAt links l → l.left < k
+  pub low : (l : Link) → ContainsAt links l → negsuc 59999999 ≤ℤ l.bound
+  pub high : (l : Link) → ContainsAt links l → l.bound ≤ℤ pos 60000000
 
 -- the table that was entered from the links
 pub record Entered (k : ℕ) (links : List Link) (d : ℕ → ℕ → Option ℤ) : Type 0 where

@@ -1,7 +1,7 @@
 -- The refusal of a total, its summands and links says what its words say.
 use Rattle.std.proofs.Common.{◌≡◌, ℕ, suc, ◌+◌, ◌<◌, ◌≤◌, Bool, true, false, cond, not, ◌&&◌, eqb, leb, ◌⊎◌, List, [], ◌∷◌, length, get_or, Some, None, Err, Option, Result, sym, refl, ap, ◌∙◌, subst, ⊎_elim, add-one, arith, MatchOption}
 use Rattle.std.specs.Option.{option_map}
-use Rattle.std.specs.List.{ContainsAt as Has}
+use Rattle.std.specs.List.{ContainsAt}
 use Rattle.std.proofs.lemmas.Bool.{leb-true, ltb-true, and_parts, and_from, cases_Bool, eqb-false, not-true, le-leb, lt-ltb, le-ltb}
 use Rattle.rules.specs.declared.fault.Fault.{Fault}
 use Rattle.rules.specs.declared.fault.Fault.TheVariants.{ColumnCount, NoColumn, ListLength, ColumnTwice, OutOfRange}
@@ -210,13 +210,13 @@ module _ (k t : ℕ) (ss : List ℕ) (ls : List Link) where
         ∙ ap (λ (o : Option ℕ). at_first OutOfRange o None) p.bounds
 
     -- no link names the total
-    other_at : (l : Link) → Has ls l → (not (eqb l.left t) && not (eqb l.right t)) ≡ true
+    other_at : (l : Link) → ContainsAt ls l → (not (eqb l.left t) && not (eqb l.right t)) ≡ true
     other_at l (n, h, f) = subst (λ (m : Link). (not (eqb m.left t) && not (eqb m.right t)) ≡ true) (f no_link) (and_parts (two_columns (get_or ls n no_link)) _ (each_other n no_link (omega arith) h)).1
 
-    pub left_other : (l : Link) → Has ls l → l.left ≡ t → ⊥
+    pub left_other : (l : Link) → ContainsAt ls l → l.left ≡ t → ⊥
     left_other l h = eqb-false _ _ (not-true _ (and_parts (not (eqb l.left t)) (not (eqb l.right t)) (other_at l h)).0)
 
-    pub right_other : (l : Link) → Has ls l → l.right ≡ t → ⊥
+    pub right_other : (l : Link) → ContainsAt ls l → l.right ≡ t → ⊥
     right_other l h = eqb-false _ _ (not-true _ (and_parts (not (eqb l.left t)) (not (eqb l.right t)) (other_at l h)).1)
 
     -- then the rings are judged

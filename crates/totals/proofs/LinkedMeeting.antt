@@ -1,6 +1,6 @@
 -- A sum with links over the closed table of its links.
 use Rattle.std.proofs.Common.{◌≡◌, ℕ, ◌<◌, true, List, length, get_or, ℤ, ◌+ℤ◌, ◌≤ℤ◌, None, Option, sym, ◌∙◌, subst, arith}
-use Rattle.std.specs.List.{ContainsAt as Has}
+use Rattle.std.specs.List.{ContainsAt}
 use Rattle.std.proofs.lemmas.List.{get_or_default}
 use Rattle.std.proofs.lemmas.Int.{ints}
 use Rattle.std.proofs.lemmas.Bool.{and_parts, and_from}
@@ -29,7 +29,7 @@ use Rattle.totals.proofs.Plain.{total_apart, same_place, summands_apart}
 use Rattle.totals.proofs.Supporting.{Valued, Meets}
 
 -- an entry of a list stands in it
-has_at : {X : Type 0} (xs : List X) (i : ℕ) (d : X) → i < length xs → Has xs (get_or xs i d)
+has_at : {X : Type 0} (xs : List X) (i : ℕ) (d : X) → i < length xs → ContainsAt xs (get_or xs i d)
 has_at xs i d h = (i, h, λ e. get_or_default xs i e d h)
 
 -- the test of links and the links one by one
@@ -50,10 +50,10 @@ module _ (k t : ℕ) (ss : List ℕ) (ls : List Link) (none : linked_refusal k t
   same_test : (x : List ℤ) → lies x (all_values k) ≡ true → all_linked ls x ≡ obeys k d x
   same_test x there = subst (λ (n : ℕ). all_linked ls x ≡ obeys n d x) width (same x there)
 
-  left_there : (l : Link) → Has ls l → l.left < k
+  left_there : (l : Link) → ContainsAt ls l → l.left < k
   left_there = (taken k ls (links_accepted k t ss ls none)).good.left
 
-  right_there : (l : Link) → Has ls l → l.right < k
+  right_there : (l : Link) → ContainsAt ls l → l.right < k
   right_there = (taken k ls (links_accepted k t ss ls none)).good.right
 
   -- values that are equal at each column that a link names

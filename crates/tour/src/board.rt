@@ -2,7 +2,6 @@
 
 use crate::clock::Clock;
 use crate::telling;
-use differences::Link;
 use rules::{Rule, Verdict, Window};
 use std::alloc::AllocError;
 use std::{fmt, io};
@@ -40,11 +39,6 @@ impl Column {
             window: Window { first, last },
         }
     }
-}
-
-/// Column `left` is at most column `right` plus `bound`.
-pub(crate) fn link(left: usize, right: usize, bound: i32) -> Link {
-    Link { left, right, bound }
 }
 
 /// A window, told by what its values are.

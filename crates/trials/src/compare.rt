@@ -29,7 +29,7 @@ impl Claim {
     fn owes(self, left: Window, value: i32) -> bool {
         match self {
             Claim::Tight => value == left.first || value == left.last,
-            Claim::Full => left.first <= value && value <= left.last,
+            Claim::Full => holds(left, value),
         }
     }
 }
@@ -155,7 +155,7 @@ impl<'a> Comparison<'a> {
         for value in before.first..=before.last {
             let supported = plans.support(column, value);
             self.tally.values = self.tally.values.saturating_add(1);
-            let kept = left.first <= value && value <= left.last;
+            let kept = holds(left, value);
             if supported && !kept {
                 return Err(Wrong::Struck);
             }
@@ -179,6 +179,11 @@ impl<'a> Comparison<'a> {
         )?;
         println!(self.rt; "  {differing} of {BOARDS} boards differ")
     }
+}
+
+/// Whether the value lies in the window.
+fn holds(window: Window, value: i32) -> bool {
+    (window.first..=window.last).contains(&value)
 }
 
 /// Judges the answer that there is no plan.

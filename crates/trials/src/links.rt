@@ -6,13 +6,7 @@ mod cases;
 use crate::checks::Checks;
 use crate::compare::Claim;
 use crate::links::boards::{SEED, draw};
-use differences::Link;
 use std::io;
-
-/// Column `left` is at most column `right` plus `bound`.
-fn link(left: usize, right: usize, bound: i32) -> Link {
-    Link { left, right, bound }
-}
 
 pub(crate) fn check(checks: &mut Checks<'_>) -> io::Result<()> {
     checks.title("Links, fixed cases")?;

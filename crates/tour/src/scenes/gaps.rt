@@ -1,6 +1,5 @@
 //! Visits that have to wait for one another.
 
-use crate::board::link;
 use crate::scenes::asked;
 use crate::telling;
 use differences::{Link, Links};
@@ -9,10 +8,10 @@ use std::io;
 /// How the visits wait for one another.
 fn waits() -> [Link; 4] {
     [
-        link(0, 1, -30),
-        link(1, 2, -45),
-        link(2, 3, -20),
-        link(3, 0, 180),
+        Link::new(0, 1, -30),
+        Link::new(1, 2, -45),
+        Link::new(2, 3, -20),
+        Link::new(3, 0, 180),
     ]
 }
 

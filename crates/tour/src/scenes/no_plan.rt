@@ -1,8 +1,8 @@
 //! A day that has no plan.
 
-use crate::board::{Board, Column, Values, link};
+use crate::board::{Board, Column, Values};
 use crate::telling;
-use differences::Links;
+use differences::{Link, Links};
 use std::io;
 
 pub(crate) fn tell(rt: &HostRuntime) -> io::Result<()> {
@@ -11,7 +11,7 @@ pub(crate) fn tell(rt: &HostRuntime) -> io::Result<()> {
         "  The cooler check starts at least 30 minutes after the service, and before 06:21."
     )?;
     let mut links = Links::fresh();
-    telling::setting(rt, "Links", links.set(2, &[link(0, 1, -30)]))?;
+    telling::setting(rt, "Links", links.set(2, &[Link::new(0, 1, -30)]))?;
     let mut board = Board::of(
         rt,
         Values::Starts,

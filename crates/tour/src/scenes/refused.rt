@@ -1,8 +1,8 @@
 //! Calls that are refused.
 
-use crate::board::{Board, Column, Values, link};
+use crate::board::{Board, Column, Values};
 use crate::telling;
-use differences::Links;
+use differences::{Link, Links};
 use std::alloc::AllocError;
 use std::io;
 
@@ -32,12 +32,12 @@ fn right(rt: &HostRuntime) -> Result<Board, AllocError> {
 pub(crate) fn tell(rt: &HostRuntime) -> io::Result<()> {
     telling::title(rt, "6. Refusals")?;
     let mut links = Links::fresh();
-    telling::setting(rt, "Links", links.set(2, &[link(0, 1, -30)]))?;
+    telling::setting(rt, "Links", links.set(2, &[Link::new(0, 1, -30)]))?;
     println!(rt; "  A board of two columns is to have a second link, and it names column 2.")?;
     telling::setting(
         rt,
         "Links",
-        links.set(2, &[link(0, 1, -60), link(1, 2, -45)]),
+        links.set(2, &[Link::new(0, 1, -60), Link::new(1, 2, -45)]),
     )?;
     println!(rt;
         "  The rule stays as it was. A window is offered whose first start is after its last."

@@ -1,13 +1,17 @@
 //! Two rules on one board, asked in turn.
 
-use crate::board::{Board, Column, Values, link};
+use crate::board::{Board, Column, Values};
 use crate::telling;
 use differences::{Apart, Link, Links};
 use std::alloc::AllocError;
 use std::io;
 
 fn waits() -> [Link; 3] {
-    [link(0, 1, -30), link(1, 2, -45), link(2, 0, 100)]
+    [
+        Link::new(0, 1, -30),
+        Link::new(1, 2, -45),
+        Link::new(2, 0, 100),
+    ]
 }
 
 fn asked(rt: &HostRuntime) -> Result<Board, AllocError> {

@@ -1,7 +1,8 @@
 //! Minutes of work that add up.
 
-use crate::board::{Board, Column, Values, link};
+use crate::board::{Board, Column, Values};
 use crate::telling;
+use differences::Link;
 use std::io;
 use totals::LinkedSum;
 
@@ -21,7 +22,7 @@ pub(crate) fn tell(rt: &HostRuntime) -> io::Result<()> {
         ],
     )?;
     board.list(rt)?;
-    let shorter = link(0, 1, -15);
+    let shorter = Link::new(0, 1, -15);
     let mut sum = LinkedSum::fresh();
     telling::setting(rt, "Linked sum", sum.set(3, 2, &[0, 1], &[shorter]))?;
     board.trim(rt, "Linked sum", &mut sum)?;
@@ -34,6 +35,6 @@ pub(crate) fn tell(rt: &HostRuntime) -> io::Result<()> {
     telling::setting(
         rt,
         "Linked sum",
-        sum.set(3, 2, &[0, 1], &[shorter, link(1, 0, 15)]),
+        sum.set(3, 2, &[0, 1], &[shorter, Link::new(1, 0, 15)]),
     )
 }

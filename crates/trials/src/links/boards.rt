@@ -2,7 +2,6 @@
 
 use crate::board::Board;
 use crate::compare::Trial;
-use crate::links::link;
 use crate::random::Random;
 use crate::words::Words;
 use differences::{Link, Links};
@@ -46,7 +45,7 @@ impl Words for LinkWords {
 fn draw_link(random: &mut Random, board: &Board) -> Link {
     let (left, right) = random.two_below(board.width());
     let bound = random.upwards(board.distance(left, right).saturating_sub(5), 15);
-    link(left, right, bound)
+    Link::new(left, right, bound)
 }
 
 /// Up to six links.
@@ -64,11 +63,11 @@ fn add_ring(links: &mut Vec<Link>, random: &mut Random, board: &Board) -> Result
         let left = right - 1;
         let bound = random.upwards(board.distance(left, right).saturating_sub(5), 11);
         length = length.saturating_add(bound);
-        links.push(link(left, right, bound))?;
+        links.push(Link::new(left, right, bound))?;
     }
     let last = board.width().saturating_sub(1);
     let wanted = random.upwards(-2, 5);
-    links.push(link(last, 0, wanted.saturating_sub(length)))?;
+    links.push(Link::new(last, 0, wanted.saturating_sub(length)))?;
     Ok(())
 }
 

@@ -1,10 +1,9 @@
 //! Links with known outcomes.
 
 use crate::checks::{Checks, REFUSED};
-use crate::links::link;
 use crate::outcome::Setting;
 use crate::table::{Entries, SetByEntries, column, unreadable};
-use differences::Links;
+use differences::{Link, Links};
 use std::alloc::Global;
 use std::io;
 
@@ -81,15 +80,15 @@ too few values       |    | | 0 30, 0 30, 0 30, 0 30, 0 30, 0 30, 0 30, 0 30, 0 
 
 /// Lists of 256 links and more.
 fn check_lengths(checks: &mut Checks<'_>, rule: &mut Links) -> io::Result<()> {
-    let mut links = vec![in checks.heap(); link(0, 1, -3); 256]?;
+    let mut links = vec![in checks.heap(); Link::new(0, 1, -3); 256]?;
     checks.setting("256 links", rule.set(2, links.as_slice()), "set")?;
-    links.push(link(1, 1, 60_000_001))?;
+    links.push(Link::new(1, 1, 60_000_001))?;
     checks.setting(
         "257 links, a column twice",
         rule.set(2, links.as_slice()),
         "refused with 9 at 0",
     )?;
-    links.push(link(0, 2, 0))?;
+    links.push(Link::new(0, 2, 0))?;
     checks.setting(
         "258 links, no such column",
         rule.set(2, links.as_slice()),
