@@ -34,7 +34,7 @@ fn limits<F: Fn(usize) -> Limit>(summands: &[usize], limit: F) -> [Limit; MOST_S
     ensures each { (a : ℕ) → a < length summands.now → F.post limit (column_at summands.now a) (limit_at result a) }
 {
     let mut row = [Limit { top: 0, way: 0 }; MOST_SUMMANDS];
-    // By the index: after a zip with `iter_mut` a proof knows nothing of what was written.
+    // By the index: while a zip with `iter_mut` lends the row, an invariant cannot name it.
     for (a, column) in summands.iter().enumerate() {
         row[a] = limit(*column);
     }
