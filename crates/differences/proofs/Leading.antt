@@ -16,8 +16,8 @@ module _ (k : ℕ) (rows : List (List ℤ)) (fits : k ≤ length rows) where
   leading_entry : (i j : ℕ) → i < k → j < k → entry (take k rows) i j ≡ entry rows i j
   leading_entry i j hi hj = ap (λ r. get_or r j (pos 0)) (get_or-take k rows i [] hi)
 
-  pub leading_near : NearRows k rows → NearRows (length (take k rows)) (take k rows)
-  leading_near n = rw leading_long (record { near = λ i h. rw (get_or-take k rows i [] h) (n.near i h) })
+  pub leading_rows_near : NearRows k rows → NearRows (length (take k rows)) (take k rows)
+  leading_rows_near n = rw leading_long (record { near = λ i h. rw (get_or-take k rows i [] h) (n.near i h) })
 
   pub leading_zeros : ((i : ℕ) → i < k → entry rows i i ≡ pos 0) → (i : ℕ) → i < length (take k rows) → entry (take k rows) i i ≡ pos 0
   leading_zeros zeros i h = let lt : i < k = omega (arith, leading_long) in leading_entry i i lt lt ∙ zeros i lt

@@ -20,6 +20,7 @@ pub const MOST_GAP: i32 = 60_000_000;
 ///
 /// It is tight: both ends of every window that it leaves are in allowed plans. A row that no `set` could have made means what a
 /// fresh one means.
+// No `Option` and no ghost field: rows are copied out of lists as they are, and every bit pattern means something.
 #[derive(Clone, Copy)]
 pub struct Apart {
     columns: usize,

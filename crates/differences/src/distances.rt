@@ -12,7 +12,7 @@ pub mod table;
 type Row = [i32; MOST_COLUMNS];
 
 /// The distances between 1 to 32 columns, each as short as the links make it. Without a link it is 60,000,000, which binds no two values.
-// No heap: the room is that of the largest board, in `Links` too.
+// No heap: the room is that of the largest board. A number where no link leads, so that a trim has no case apart.
 #[derive(Clone, Copy)]
 pub struct Distances {
     columns: usize,

@@ -9,6 +9,8 @@ ghost use Rattle.differences.specs.Pairs.{PairLeaves};
 
 use rules::Window;
 
+// A pair of windows is a tuple: it is made and taken apart within this file.
+
 /// What is left of two windows whose values are the gap or more apart: of each order what it leaves, and both together.
 pub(crate) fn keep_apart(a: Window, b: Window, gap: i32) -> Option<(Window, Window)>
     requires lawful { (lawful a ≡ true) × (lawful b ≡ true) }

@@ -1,21 +1,21 @@
 //! The trim by distances.
 
-ghost use Rattle.std.specs.Prelude.{◌≡◌, ◌<◌, true, length, MatchOption};
+ghost use Rattle.std.specs.Prelude.{◌≡◌, ◌<◌, ◌≤ℤ◌, true, length, MatchOption};
 ghost use Rattle.rules.specs.Plans.{all_lawful, NoPlan};
 ghost use Rattle.rules.specs.Meaning.{Narrowed};
 ghost use Rattle.differences.specs.Tables.{Closed, obeys, distance_meaning};
 ghost use Rattle.differences.specs.Ends.{Cut, AllCut};
 
 use crate::distance::Distance;
-use rules::window::MOST_COLUMNS;
+use rules::window::ROOM;
 use rules::{Fault, Verdict, Window, check_windows};
 
-/// What the distances leave of the window of column `i`: perhaps nothing, its first value above its last.
-fn cut<D: Distance>(distances: &D, windows: &[Window], i: usize) -> Window
+/// What the distances leave of the window of column `i`, or `None` where no plan in the windows obeys them.
+fn cut<D: Distance>(distances: &D, windows: &[Window], i: usize) -> Option<Window>
     requires closed { Closed (length windows.now) (D.Distance.distance distances.now) }
     requires lawful { all_lawful windows.now ≡ true }
     requires there { i < length windows.now }
-    ensures { Cut (length windows.now) (D.Distance.distance distances.now) windows.now i result }
+    ensures { MatchOption result (NoPlan (obeys (length windows.now) (D.Distance.distance distances.now)) windows.now) (λ w. Cut (length windows.now) (D.Distance.distance distances.now) windows.now i w × (w.first ≤ℤ w.last)) }
 {
     let mut first = windows[i].first;
     let mut last = windows[i].last;
@@ -23,7 +23,10 @@ fn cut<D: Distance>(distances: &D, windows: &[Window], i: usize) -> Window
         first = first.max(window.first - distances.between(i, j));
         last = last.min(window.last + distances.between(j, i));
     }
-    Window { first, last }
+    if first > last {
+        return None;
+    }
+    Some(Window { first, last })
 }
 
 /// Writes to `left` what the distances leave of all windows, or `None` where no plan in them obeys the distances.
@@ -34,11 +37,7 @@ fn cut_all<D: Distance>(distances: &D, windows: &[Window], left: &mut [Window]) 
     ensures { MatchOption result (NoPlan (obeys (length windows.now) (D.Distance.distance distances.now)) windows.now) (λ _. AllCut (length windows.now) (D.Distance.distance distances.now) windows.now left.new (length windows.now)) }
 {
     for (i, place) in left.iter_mut().enumerate() {
-        let window = cut(distances, windows, i);
-        if window.first > window.last {
-            return None;
-        }
-        *place = window;
+        *place = cut(distances, windows, i)?;
     }
     Some(())
 }
@@ -50,7 +49,7 @@ pub fn trim_by<D: Distance>(distances: &D, windows: &mut [Window]) -> Result<Ver
     ensures { Narrowed (distance_meaning (D.Distance.width distances.now) (D.Distance.distance distances.now)) windows.old result windows.new }
 {
     check_windows(distances.columns(), windows)?;
-    let mut room = [Window { first: 0, last: 0 }; MOST_COLUMNS];
+    let mut room = ROOM;
     let left = &mut room[..windows.len()];
     match cut_all(distances, windows, left) {
         None => Ok(Verdict::Void),

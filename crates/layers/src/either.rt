@@ -5,7 +5,7 @@ ghost use Rattle.rules.specs.Plans.{window_at, spanned};
 ghost use Rattle.layers.specs.Either.{either_meaning};
 
 use crate::asking::ask;
-use rules::window::MOST_COLUMNS;
+use rules::window::ROOM;
 use rules::{Fault, Rule, Verdict, Window, check_windows};
 
 /// Allows what one of its two rules allows. The one with fewer columns binds the leading ones.
@@ -37,7 +37,7 @@ impl<A: Rule, B: Rule> Rule for Either<A, B> {
 
     fn narrow(&mut self, windows: &mut [Window]) -> Result<Verdict, Fault> {
         check_windows(self.columns(), windows)?;
-        let mut room = [Window { first: 0, last: 0 }; MOST_COLUMNS];
+        let mut room = ROOM;
         let copy = &mut room[..windows.len()];
         copy.copy_from_slice(windows);
         let one = ask(&mut self.one, copy);

@@ -6,7 +6,7 @@ ghost use Rattle.rules.specs.Refusals.{window_refusal};
 ghost use Rattle.rules.specs.Meaning.{Meaning, Narrowed};
 ghost use Rattle.layers.specs.Joining.{most_columns, joint, window_width, total_width, Turned, FixedPoint};
 
-use rules::window::MOST_COLUMNS;
+use rules::window::ROOM;
 use rules::{Fault, Verdict, Window, check_windows};
 
 /// Several rules that bind one board together.
@@ -50,7 +50,7 @@ pub(crate) trait InTurn {
         ensures outcome { Narrowed (joint (meanings self.old)) windows.old result windows.new }
     {
         check_windows(columns, windows)?;
-        let mut room = [Window { first: 0, last: 0 }; MOST_COLUMNS];
+        let mut room = ROOM;
         let copy = &mut room[..columns];
         copy.copy_from_slice(windows);
         let verdict = self.settle(copy);

@@ -8,7 +8,7 @@ ghost use Rattle.layers.specs.Shifts.{shifts_of};
 use crate::asking::ask_all;
 use crate::shifts::Shifts;
 use crate::shifts::setting::check_shifts;
-use rules::window::MOST_COLUMNS;
+use rules::window::ROOM;
 use rules::{Fault, Rule, Verdict, Window, check_windows};
 
 /// The largest shift, up or down.
@@ -62,7 +62,7 @@ impl<R: Rule> Rule for Offset<R> {
 
     fn narrow(&mut self, windows: &mut [Window]) -> Result<Verdict, Fault> {
         check_windows(self.rule.columns(), windows)?;
-        let mut room = [Window { first: 0, last: 0 }; MOST_COLUMNS];
+        let mut room = ROOM;
         let below = &mut room[..windows.len()];
         self.shifts.lower(windows, below);
         if check_windows(below.len(), below).is_err() {

@@ -20,6 +20,7 @@ pub fn check_columns(columns: usize) -> Result<(), Fault>
     }
 }
 
+// A function of its own, as each such search: only there the check carries over what `position` finds.
 /// The index of the first unlawful window.
 fn first_unlawful(windows: &[Window]) -> Option<usize>
     ensures { result ≡ first_failing lawful windows.now }

@@ -3,6 +3,7 @@
 ghost use Rattle.std.specs.Prelude.{◌≡◌, Some};
 ghost use Rattle.rules.specs.Faults.{number, place, words};
 
+use std::error::Error;
 use std::fmt;
 
 /// Why a call was refused. A refused call alters no board, rule or list.
@@ -82,6 +83,8 @@ impl Fault {
         }
     }
 }
+
+impl Error for Fault {}
 
 impl fmt::Display for Fault {
     ghost output = { λ f. Some (words f) };

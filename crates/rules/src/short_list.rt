@@ -7,6 +7,7 @@ ghost use Rattle.rules.specs.ShortLists.{listed};
 use crate::fault::Fault;
 
 /// Up to `N` entries in fixed memory: those in the first `count` places. A count beyond the places means no entries.
+// No heap, and no ghost field: rules that are rows hold such lists, and every bit pattern of a row means something.
 #[derive(Clone, Copy)]
 pub struct ShortList<T, const N: usize> {
     count: usize,

@@ -54,3 +54,9 @@ loop-j-preserved g c =
         c.requires.closed.near j i c.loop-j-test.true c.requires.there,
       ),
     )
+
+pub returns-then-first-last : goal.returns-then-first-last
+returns-then-first-last g c = ?
+
+pub returns : goal.returns
+returns g c = ?

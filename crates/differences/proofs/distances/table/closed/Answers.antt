@@ -1,7 +1,7 @@
 use Rattle.std.proofs.Common.{◌≤◌, length, refl, arith, ◌∙◌}
 use Rattle.differences.proofs.Judging.{links_taken}
 use Rattle.differences.proofs.Linking.{no_plan, table_of}
-use Rattle.differences.proofs.Leading.{leading_near, leading_zeros, leading_none, leading_closed, leading_long}
+use Rattle.differences.proofs.Leading.{leading_rows_near, leading_zeros, leading_none, leading_closed, leading_long}
 use Rattle.differences.proofs.distances.table.closed.Goals as goal
 
 pub enter-requires : goal.enter-requires
@@ -24,7 +24,7 @@ close-requires c =
     let fits : c.args.columns ≤ length c.enter.new.rows = omega (arith, known.few) in
     record {
       few = omega (arith, known.few, leading_long _ _ fits);
-      near = leading_near _ _ fits c.enter.ensures.near;
+      near = leading_rows_near _ _ fits c.enter.ensures.near;
       zeros = leading_zeros _ _ fits c.enter.ensures.zeros;
     }
 
