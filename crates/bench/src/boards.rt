@@ -1,7 +1,6 @@
 //! The boards that are measured.
 
 use crate::measure::Measure;
-use anyhow::anyhow;
 use differences::Link;
 use rules::{Fault, Rule, Window};
 use std::array;
@@ -16,11 +15,6 @@ fn board<const N: usize>(last: i32, total: Window) -> [Window; N] {
     windows
 }
 
-/// The error of a rule that could not be set. A fault is no `Error`, so `?` alone does not make one.
-fn unset(fault: Fault) -> anyhow::Error {
-    anyhow!("{fault}")
-}
-
 /// A total of 31 summands. `set` takes the number of columns, the total and the summands.
 pub(crate) fn sum_of_31<R: Rule, F: FnOnce(&mut R, usize, usize, &[usize]) -> Result<(), Fault>>(
     measure: &Measure<'_>,
@@ -31,7 +25,7 @@ pub(crate) fn sum_of_31<R: Rule, F: FnOnce(&mut R, usize, usize, &[usize]) -> Re
     requires { F.IsAlwaysCallable set }
 {
     let summands: [usize; 31] = array::from_fn(|i| i);
-    set(rule, 32, 31, &summands).map_err(unset)?;
+    set(rule, 32, 31, &summands)?;
     let total = Window {
         first: 15_000,
         last: 15_500,
@@ -44,7 +38,7 @@ pub(crate) fn linked_sum(measure: &Measure<'_>, name: &str, width: i32) -> anyho
     let summands: [usize; 30] = array::from_fn(|i| i);
     let links: [Link; 29] = array::from_fn(|i| Link::new(i, i.saturating_add(1), -1));
     let mut rule = LinkedSum::fresh();
-    rule.set(31, 30, &summands, &links).map_err(unset)?;
+    rule.set(31, 30, &summands, &links)?;
     let all = width.saturating_mul(15);
     let total = Window {
         first: all,

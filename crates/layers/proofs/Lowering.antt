@@ -1,12 +1,12 @@
 -- What a rule says of windows that were shifted and cut.
-use Rattle.std.proofs.Common.{◌≡◌, ℕ, ◌<◌, Bool, true, false, ◌&&◌, List, map, length, ℤ, ◌+ℤ◌, neg_ℤ, is_err, Some, None, Option, Result, sym, refl, ap, ◌∙◌, subst, arith}
+use Rattle.std.proofs.Common.{◌≡◌, ℕ, ◌<◌, Bool, true, false, ◌&&◌, List, [], ◌∷◌, map, length, ℤ, ◌+ℤ◌, neg_ℤ, None, sym, refl, ap, ◌∙◌, subst, arith}
+use Rattle.std.specs.List.{list_all}
 use Rattle.std.proofs.lemmas.Int.{ints}
 use Rattle.std.proofs.lemmas.Bool.{and_parts, and_from, both_ways}
 use Rattle.std.proofs.lemmas.List.{length-map}
 use Rattle.rules.specs.declared.window.Window.{Window}
-use Rattle.rules.specs.declared.fault.Fault.{Fault}
-use Rattle.rules.specs.Plans.{all_lawful, value_at, lies, inside, Single, firsts, Supported, Trimmed, Filled, NoPlan}
-use Rattle.rules.specs.Refusals.{window_refusal, answer}
+use Rattle.rules.specs.Plans.{lawful, all_lawful, value_at, lies, inside, Single, firsts, Supported, Trimmed, Filled, NoPlan}
+use Rattle.rules.specs.Refusals.{window_refusal}
 use Rattle.rules.specs.Meaning.{Meaning, Opened, Voided}
 use Rattle.rules.proofs.Windows.{inside-length, inside_trans, lies-inside, lies-length, firsts_lie, single_plan}
 use Rattle.rules.proofs.Failing.{takes, taken}
@@ -107,32 +107,27 @@ module _ (ss : List ℤ) (m : Meaning) (vs : List Window) (ok : window_refusal m
           settles = own_settles _ m.tight m.full left (inside-length left vs (inside_left o.shrinks) ∙ (taken m.scope.width vs ok).1) ends;
         }
 
--- what is_err says of a refusal
-not_refused : (o : Option Fault) → true ≡ is_err (answer o) → o ≡ None → ⊥
-not_refused None e n = both_ways _ refl (sym e)
-not_refused (Some f) e n = let z : ◌≡◌ {A = ℕ} 0 1 = cc in omega arith
-
-none_if_no_err : (o : Option Fault) → false ≡ is_err (answer o) → o ≡ None
-none_if_no_err None e = refl
-none_if_no_err (Some f) e = absurd (both_ways _ (sym e) refl)
+all_passed : (us : List Window) → list_all lawful us ≡ all_lawful us
+all_passed [] = refl
+all_passed (u ∷ us) = ap (λ b. lawful u && b) (all_passed us)
 
 -- the same as the code has it: the windows us are those of vs, shifted and cut
-module _ (ss : List ℤ) (m : Meaning) (vs us : List Window) (ok : window_refusal m.scope.width vs ≡ None) (down : us ≡ map cut (shift_windows ss vs)) (r : Result (Unit {0}) Fault) (judged : r ≡ answer (window_refusal (length us) us)) where
+module _ (ss : List ℤ) (m : Meaning) (vs us : List Window) (ok : window_refusal m.scope.width vs ≡ None) (down : us ≡ map cut (shift_windows ss vs)) where
   long : length us ≡ m.scope.width
   long = ap length down ∙ length-map (shift_windows ss vs) cut ∙ length_windows ss vs ∙ (taken m.scope.width vs ok).1
 
   -- nothing is left of some window
-  pub nothing_left : true ≡ is_err r → Voided (offset_meaning m ss) vs vs
+  pub nothing_left : false ≡ list_all lawful us → Voided (offset_meaning m ss) vs vs
   nothing_left e =
       record {
         accepted = ok;
         stays = refl;
-        none = unlawful_below ss m vs ok (λ l. not_refused _ (e ∙ ap is_err judged) (takes (length us) us (ap all_lawful down ∙ l) refl));
+        none = unlawful_below ss m vs ok (λ l. both_ways _ (sym (all_passed us) ∙ sym e) (ap all_lawful down ∙ l));
       }
 
   -- else the rule does not refuse them
-  pub something_left : false ≡ is_err r → window_refusal m.scope.width us ≡ None
-  something_left e = takes m.scope.width us (taken (length us) us (none_if_no_err _ (e ∙ ap is_err judged))).0 long
+  pub something_left : true ≡ list_all lawful us → window_refusal m.scope.width us ≡ None
+  something_left e = takes m.scope.width us (sym (all_passed us) ∙ sym e) long
 
   pub raised_back : (ys ws : List Window) → Opened m us ys → ws ≡ shift_windows (back ss) ys → Opened (offset_meaning m ss) vs ws
   raised_back ys ws o up = subst (Opened (offset_meaning m ss) vs) (sym up) (open_offset ss m vs ok ys (subst (λ (zs : List Window). Opened m zs ys) down o))

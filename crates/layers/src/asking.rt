@@ -16,7 +16,7 @@ pub(crate) fn ask<R: Rule>(rule: &mut R, windows: &mut [Window]) -> Verdict
     ensures outcome { Narrowed (on_leading (length windows.old) (R.Rule.meaning rule.old)) windows.old (Ok result) windows.new }
 {
     let columns = rule.columns();
-    rule.narrow(&mut windows[..columns]).unwrap()
+    rule.narrow(&mut windows[0..columns]).unwrap()
 }
 
 /// Asks a rule on windows in its own number.

@@ -27,6 +27,7 @@ pub(crate) trait InTurn {
         ensures same { meanings self.new ≡ meanings self.old }
         ensures outcome { FixedPoint (meanings self.old) windows.old result windows.new }
     {
+        // The label names the loop for its proof.
         'turns: loop {
             let before = total_width(windows);
             if let Verdict::Void = self.turn(windows) {

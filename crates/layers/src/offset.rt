@@ -1,6 +1,8 @@
 //! A rule on shifted columns.
 
 ghost use Rattle.std.specs.Prelude.{◌≡◌, [], MatchResult};
+ghost use Rattle.std.specs.List.{list_all};
+ghost use Rattle.rules.specs.Plans.{lawful};
 ghost use Rattle.rules.specs.Refusals.{answer};
 ghost use Rattle.layers.specs.Offset.{offset_meaning, offset_refusal, OffsetJudged};
 ghost use Rattle.layers.specs.Shifts.{shifts_of};
@@ -65,7 +67,7 @@ impl<R: Rule> Rule for Offset<R> {
         let mut room = ROOM;
         let below = &mut room[..windows.len()];
         self.shifts.lower(windows, below);
-        if check_windows(below.len(), below).is_err() {
+        if !are_lawful(below) {
             return Ok(Verdict::Void);
         }
         let verdict = ask_all(&mut self.rule, below);
@@ -74,4 +76,11 @@ impl<R: Rule> Rule for Offset<R> {
         }
         Ok(verdict)
     }
+}
+
+/// Every window is lawful.
+fn are_lawful(windows: &[Window]) -> bool
+    ensures { result ≡ list_all lawful windows.now }
+{
+    windows.iter().all(|window| window.is_lawful())
 }

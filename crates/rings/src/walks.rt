@@ -15,6 +15,7 @@ mod ties;
 type Row = [Option<i64>; MOST_COLUMNS];
 
 // That there are at most 32 columns is a clause of `pass`, not a ghost field: the check does not lend a row of a struct with one yet.
+// So the closed table, which has ghost fields, is a type of its own.
 /// The table while walks are entered. The entries of its leading columns count.
 #[derive(Drop)]
 pub(crate) struct Table {

@@ -102,7 +102,7 @@ impl Board {
         name: &str,
         rule: &mut R,
     ) -> io::Result<()> {
-        // The names stay behind: a rule takes the windows as one slice.
+        // A copy without the names: a rule takes the windows as one slice.
         let mut windows: Vec<Window> = self.columns.iter().map(|c| c.window).collect(rt.alloc())?;
         let values = self.values;
         match rules::trim(rule, &mut windows) {

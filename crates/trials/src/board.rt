@@ -63,7 +63,7 @@ impl Board {
             .collect(heap)
     }
 
-    /// How far column `left` lies above column `right`.
+    /// How far column `left` lies above column `right`, and 0 where one is not there.
     pub(crate) fn distance(&self, left: usize, right: usize) -> i32 {
         match (self.columns.get(left), self.columns.get(right)) {
             (Some(above), Some(below)) => above.origin.saturating_sub(below.origin),

@@ -1,6 +1,6 @@
 //! Numbers that look random and are the same in every run.
 
-ghost use Rattle.std.specs.Prelude.{◌≡◌, ◌<◌, ◌≤◌, ◌≢◌};
+ghost use Rattle.std.specs.Prelude.{◌<◌, ◌≤◌, ◌≢◌};
 
 /// A generator of 64 bits by shifts and exclusive or.
 #[derive(Drop)]

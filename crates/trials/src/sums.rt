@@ -22,6 +22,7 @@ pub trait Total: Rule {
     fn set(&mut self, columns: usize, total: usize, summands: &[usize]) -> Result<(), Fault>;
 }
 
+// Two impls, each with a constant of its own: the type behind `Sum` and `RisingSum` is no public one.
 impl Total for Sum {
     const ORDER: Order = Order::Any;
 

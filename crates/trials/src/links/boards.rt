@@ -59,8 +59,7 @@ fn add_free(links: &mut Vec<Link>, random: &mut Random, board: &Board) -> Result
 /// A ring through all columns, of a length from -2 to 2.
 fn add_ring(links: &mut Vec<Link>, random: &mut Random, board: &Board) -> Result<(), AllocError> {
     let mut length = 0i32;
-    for right in 1..board.width() {
-        let left = right - 1;
+    for (left, right) in (0..board.width()).zip(1..board.width()) {
         let bound = random.upwards(board.distance(left, right).saturating_sub(5), 11);
         length = length.saturating_add(bound);
         links.push(Link::new(left, right, bound))?;

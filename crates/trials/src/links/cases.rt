@@ -15,7 +15,7 @@ impl SetByEntries for Links {
             let [left, right, bound] = *entry else {
                 return Err(unreadable());
             };
-            links.push(link(column(left)?, column(right)?, bound))?;
+            links.push(Link::new(column(left)?, column(right)?, bound))?;
         }
         Ok(Setting(self.set(entries.columns, links.as_slice())))
     }

@@ -1,8 +1,9 @@
-use Rattle.std.proofs.Common.{arith}
+use Rattle.std.proofs.Common.{◌≡◌, length, sym, refl, ap, ◌∙◌, arith}
 use Rattle.std.proofs.lemmas.Int.{ints, clamps}
 use Rattle.rules.specs.Plans.{window_at}
 use Rattle.rules.proofs.Windows.{Ends, lawful_at, lawful_ends}
-use Rattle.differences.specs.Ends.{first_at, last_at}
+use Rattle.differences.specs.Ends.{first_at, last_at, first_left, last_left}
+use Rattle.differences.proofs.Cutting.{cut_empty}
 use Rattle.differences.proofs.Leaving.{first_more, last_more}
 use Rattle.differences.proofs.trim.cut.Goals as goal
 
@@ -56,7 +57,27 @@ loop-j-preserved g c =
     )
 
 pub returns-then-first-last : goal.returns-then-first-last
-returns-then-first-last g c = ?
+returns-then-first-last g c =
+    let ws = c.args.windows.now in
+    let d = g.D.Distance.distance c.args.distances.now in
+    let l = c.loop-j in
+    let all : l.j ≡ length ws = omega (arith, c.loop-j-test.false, l.auto.j-end) in
+    cut_empty (length ws) d ws c.args.i (record { first = l.first; last = l.last }) refl c.requires.there
+    (record {
+      first = sym l.first-is ∙ l.invariant.0 ∙ ap (first_left d (first_at ws) c.args.i) all;
+      last = sym l.last-is ∙ l.invariant.1 ∙ ap (last_left d (last_at ws) c.args.i) all;
+    })
+    (omega (arith, ints, c.if-first-last.true, l.first-is, l.last-is))
 
 pub returns : goal.returns
-returns g c = ?
+returns g c =
+    let ws = c.args.windows.now in
+    let d = g.D.Distance.distance c.args.distances.now in
+    let l = c.loop-j in
+    let all : l.j ≡ length ws = omega (arith, c.loop-j-test.false, l.auto.j-end) in (
+      record {
+          first = l.invariant.0 ∙ ap (first_left d (first_at ws) c.args.i) all;
+          last = l.invariant.1 ∙ ap (last_left d (last_at ws) c.args.i) all;
+        },
+      omega (arith, ints, c.if-first-last.false),
+    )
