@@ -76,8 +76,8 @@ returns g c =
     let l = c.loop-j in
     let all : l.j ≡ length ws = omega (arith, c.loop-j-test.false, l.auto.j-end) in (
       record {
-          first = l.invariant.0 ∙ ap (first_left d (first_at ws) c.args.i) all;
-          last = l.invariant.1 ∙ ap (last_left d (last_at ws) c.args.i) all;
-        },
+        first = l.invariant.0 ∙ ap (first_left d (first_at ws) c.args.i) all;
+        last = l.invariant.1 ∙ ap (last_left d (last_at ws) c.args.i) all;
+      },
       omega (arith, ints, c.if-first-last.false),
     )
