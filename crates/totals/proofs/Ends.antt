@@ -41,29 +41,13 @@ pub record Downward (d : ℕ → ℕ → ℤ) (ws : List Window) (ss : List ℕ)
   pub top : (a : ℕ) → a < length ss → (limit_at ls a).top ≡ pos 0 -ℤ first_at ws (column_at ss a)
   pub way : (a : ℕ) → a < length ss → (limit_at ls a).way ≡ d (column_at ss a) j
 
--- the leading limits of a row
-module _ (d : ℕ → ℕ → ℤ) (ws : List Window) (ss : List ℕ) (j : ℕ) (row : List Limit) (long : length row ≡ 31) (few : length ss ≤ 31) where
-  leading_long : length (take (length ss) row) ≡ length ss
-  leading_long = length-take-le (length ss) row (omega arith)
+-- the limits of a row
+module _ (d : ℕ → ℕ → ℤ) (ws : List Window) (ss : List ℕ) (j : ℕ) (row : List Limit) (long : length row ≡ length ss) where
+  pub upward_row : ((a : ℕ) → a < length ss → limit_at row a ≡ record { top = last_at ws (column_at ss a); way = d j (column_at ss a) }) → Upward d ws ss j row
+  upward_row is = record { long = long; top = λ a l. ap (λ (m : Limit). m.top) (is a l); way = λ a l. ap (λ (m : Limit). m.way) (is a l) }
 
-  leading : (a : ℕ) → a < length ss → limit_at (take (length ss) row) a ≡ limit_at row a
-  leading a l = get_or-take (length ss) row a _ l
-
-  pub upward_row : ((a : ℕ) → a < length ss → limit_at row a ≡ record { top = last_at ws (column_at ss a); way = d j (column_at ss a) }) → Upward d ws ss j (take (length ss) row)
-  upward_row is =
-      record {
-        long = leading_long;
-        top = λ a l. ap (λ (m : Limit). m.top) (leading a l ∙ is a l);
-        way = λ a l. ap (λ (m : Limit). m.way) (leading a l ∙ is a l);
-      }
-
-  pub downward_row : ((a : ℕ) → a < length ss → limit_at row a ≡ record { top = pos 0 -ℤ first_at ws (column_at ss a); way = d (column_at ss a) j }) → Downward d ws ss j (take (length ss) row)
-  downward_row is =
-      record {
-        long = leading_long;
-        top = λ a l. ap (λ (m : Limit). m.top) (leading a l ∙ is a l);
-        way = λ a l. ap (λ (m : Limit). m.way) (leading a l ∙ is a l);
-      }
+  pub downward_row : ((a : ℕ) → a < length ss → limit_at row a ≡ record { top = pos 0 -ℤ first_at ws (column_at ss a); way = d (column_at ss a) j }) → Downward d ws ss j row
+  downward_row is = record { long = long; top = λ a l. ap (λ (m : Limit). m.top) (is a l); way = λ a l. ap (λ (m : Limit). m.way) (is a l) }
 
 module _ (d : ℕ → ℕ → ℤ) (ws : List Window) (ss : List ℕ) (j : ℕ) (ls : List Limit)
     (closed : Closed (length ws) d) (lawful : all_lawful ws ≡ true) (there : Columns (length ws) ss) (here : j < length ws) where

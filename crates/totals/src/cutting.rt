@@ -26,19 +26,17 @@ pub(crate) struct Settled<'a, D: Distance> {
     ghost here: { total < length windows.now },
 }
 
-/// The limit of each summand, and others after them.
-fn limits<F: Fn(usize) -> Limit>(summands: &[usize], limit: F) -> [Limit; MOST_SUMMANDS]
-    requires few { length summands.now ≤ 31 }
+/// Writes the limit of each summand.
+// Into the caller's row: one that is handed out is copied.
+fn fill<F: Fn(usize) -> Limit>(row: &mut [Limit], summands: &[usize], limit: F)
+    requires even { length row.old ≡ length summands.now }
     requires callable { (a : ℕ) → a < length summands.now → F.pre limit (column_at summands.now a) }
-    ensures long { length result ≡ 31 }
-    ensures each { (a : ℕ) → a < length summands.now → F.post limit (column_at summands.now a) (limit_at result a) }
+    ensures each { (a : ℕ) → a < length summands.now → F.post limit (column_at summands.now a) (limit_at row.new a) }
 {
-    let mut row = [Limit { top: 0, way: 0 }; MOST_SUMMANDS];
     // By the index: while a zip with `iter_mut` lends the row, an invariant cannot name it.
-    for (a, column) in summands.iter().enumerate() {
-        row[a] = limit(*column);
+    for (a, place) in row.iter_mut().enumerate() {
+        *place = limit(summands[a]);
     }
-    row
 }
 
 impl<'a, D: Distance> Settled<'a, D> {
@@ -70,8 +68,9 @@ impl<'a, D: Distance> Settled<'a, D> {
         requires most { low ≤ℤ greatest_with (D.Distance.distance self.now.distances.now) self.now.windows.now self.now.summands.now j (last_at self.now.windows.now j) }
         ensures { FirstLeft (D.Distance.distance self.now.distances.now) self.now.windows.now self.now.summands.now j low result }
     {
-        let row = limits(self.summands, |i| self.upward(j, i));
-        let each = &row[..self.summands.len()];
+        let mut room = [Limit { top: 0, way: 0 }; MOST_SUMMANDS];
+        let each = &mut room[..self.summands.len()];
+        fill(each, self.summands, |i| self.upward(j, i));
         let window = self.windows[j];
         Limits { each }.least_reaching(low, window.first, window.last)
     }
@@ -83,8 +82,9 @@ impl<'a, D: Distance> Settled<'a, D> {
         requires moderate { Moderate high }
         ensures { LastLeft (D.Distance.distance self.now.distances.now) self.now.windows.now self.now.summands.now j high result }
     {
-        let row = limits(self.summands, |i| self.downward(j, i));
-        let each = &row[..self.summands.len()];
+        let mut room = [Limit { top: 0, way: 0 }; MOST_SUMMANDS];
+        let each = &mut room[..self.summands.len()];
+        fill(each, self.summands, |i| self.downward(j, i));
         let window = self.windows[j];
         -Limits { each }.least_reaching(-high, -window.last, -window.first)
     }

@@ -23,6 +23,7 @@ pub struct Reached {
 }
 
 /// The limits of the summands of a total.
+// Pairs: with a row of tops and a row of ways a trim takes a tenth longer.
 #[derive(Clone, Copy)]
 pub(crate) struct Limits<'a> {
     pub(crate) each: &'a [Limit],

@@ -1,15 +1,15 @@
-use Rattle.std.proofs.Common.{take, length, rules, arith}
+use Rattle.std.proofs.Common.{◌≡◌, length, rules, arith}
 use Rattle.std.proofs.lemmas.Int.{ints}
 use Rattle.differences.specs.Ends.{last_at}
-use Rattle.totals.proofs.Ends.{ends_at, Upward, upward_row, up_reachable, up_most, first_left}
+use Rattle.totals.proofs.Ends.{ends_at, upward_row, up_reachable, up_most, first_left}
 use Rattle.totals.proofs.cutting.Settled.first_left.Goals as goal
 
 pub invariant_of-least_reaching : goal.invariant_of-least_reaching
 invariant_of-least_reaching g c =
     let s = c.args.self.now in
     let d = g.D.Distance.distance s.distances.now in
-    let up : Upward d s.windows.now s.summands.now c.args.j (take (length s.summands.now) c.limits-row.result) =
-    upward_row d _ _ _ _ c.limits-row.ensures.long s.few (λ a l. let p = c.limits-row.ensures.each a l in search rules) in
+    let long : length c.fill.new.row ≡ length s.summands.now = search rules in
+    let up = upward_row d s.windows.now s.summands.now c.args.j _ long (λ a l. let p = c.fill.ensures.each a l in search rules) in
     record { few = let n = up.long in let few = s.few in omega arith; reachable = up_reachable d s.windows.now s.summands.now c.args.j _ s.closed s.lawful s.there c.requires.here up }
 
 pub least_reaching-requires : goal.least_reaching-requires
@@ -19,8 +19,8 @@ least_reaching-requires g c =
     let d = g.D.Distance.distance s.distances.now in
     let e = ends_at s.windows.now j s.lawful c.requires.here in
     let h = c.ranges.low in
-    let up : Upward d s.windows.now s.summands.now j (take (length s.summands.now) c.limits-row.result) =
-    upward_row d _ _ _ _ c.limits-row.ensures.long s.few (λ a l. let p = c.limits-row.ensures.each a l in search rules) in
+    let long : length c.fill.new.row ≡ length s.summands.now = search rules in
+    let up = upward_row d s.windows.now s.summands.now c.args.j _ long (λ a l. let p = c.fill.ensures.each a l in search rules) in
     record {
       first = (omega (arith, ints), omega (arith, ints));
       last = (omega (arith, ints), omega (arith, ints));
@@ -36,7 +36,7 @@ returns g c =
     let e = ends_at s.windows.now j s.lawful c.requires.here in
     let h = c.ranges.low in
     let ok = c.least_reaching.type_inv in
-    let up : Upward d s.windows.now s.summands.now j (take (length s.summands.now) c.limits-row.result) =
-    upward_row d _ _ _ _ c.limits-row.ensures.long s.few (λ a l. let p = c.limits-row.ensures.each a l in search rules) in
+    let long : length c.fill.new.row ≡ length s.summands.now = search rules in
+    let up = upward_row d s.windows.now s.summands.now c.args.j _ long (λ a l. let p = c.fill.ensures.each a l in search rules) in
     first_left d s.windows.now s.summands.now j _ s.closed s.lawful s.there c.requires.here up
     c.args.low _ _ _ _ c.least_reaching.ensures.least (omega (arith, ints)) (omega (arith, ints)) (omega (arith, ints))
