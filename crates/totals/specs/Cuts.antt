@@ -8,6 +8,7 @@ use Rattle.rules.specs.Plans.{window_at, all_lawful, inside, Keeps, NoPlan, Trim
 use Rattle.differences.specs.Tables.{obeys, Obeys}
 use Rattle.differences.specs.Ends.{first_at, last_at}
 use Rattle.totals.specs.Adding.{total}
+use Rattle.totals.specs.Reaching.{Value}
 
 -- the column of a summand
 abbrev pub column_at : List ℕ → ℕ → ℕ
@@ -60,6 +61,13 @@ low_of ws t ss = int_max (first_at ws t) (least ws ss)
 
 abbrev pub high_of : List Window → ℕ → List ℕ → ℤ
 high_of ws t ss = int_min (last_at ws t) (most ws ss)
+
+-- low is the least that the total can be, and high the most, and both are values
+pub record Range (ws : List Window) (t : ℕ) (ss : List ℕ) (low high : ℤ) : Type 0 where
+  pub low_is : low ≡ low_of ws t ss
+  pub high_is : high ≡ high_of ws t ss
+  pub some : low ≤ℤ high
+  pub values : Value low × Value high
 
 -- w is what is left of column j: from low to high if it is the total's
 pub record CutAt (d : ℕ → ℕ → ℤ) (ws : List Window) (t : ℕ) (ss : List ℕ) (j : ℕ) (low high : ℤ) (w : Window) : Type 0 where

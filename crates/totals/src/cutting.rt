@@ -1,11 +1,11 @@
 //! What a total leaves of windows that distances have trimmed.
 
-ghost use Rattle.std.specs.Prelude.{◌≡◌, ℕ, ◌<◌, ◌≤◌, true, length, pos, ◌-ℤ◌, ◌≤ℤ◌};
+ghost use Rattle.std.specs.Prelude.{◌≡◌, ℕ, ◌<◌, ◌≤◌, true, length, pos, ◌-ℤ◌, ◌≤ℤ◌, ◌<ℤ◌, MatchOption};
 ghost use Rattle.rules.specs.Plans.{all_lawful};
 ghost use Rattle.differences.specs.Tables.{Closed};
 ghost use Rattle.differences.specs.Ends.{first_at, last_at};
 ghost use Rattle.totals.specs.Reaching.{Value, Moderate, limit_at};
-ghost use Rattle.totals.specs.Cuts.{column_at, Columns, least, most, least_with, greatest_with, FirstLeft, LastLeft, CutAt, EndsObey, Meeting, low_of, high_of};
+ghost use Rattle.totals.specs.Cuts.{column_at, Columns, least, most, least_with, greatest_with, FirstLeft, LastLeft, CutAt, EndsObey, Meeting, low_of, high_of, Range};
 
 use crate::reaching::{Limit, Limits, MOST_SUMMANDS};
 use differences::Distance;
@@ -124,18 +124,15 @@ impl<'a, D: Distance> Settled<'a, D> {
         (least, most)
     }
 
-    /// The least and the most that the total can be, by its own window and by those of the summands.
-    fn range(&self) -> (i64, i64)
-        ensures low { result.0 ≡ low_of self.now.windows.now self.now.total self.now.summands.now }
-        ensures high { result.1 ≡ high_of self.now.windows.now self.now.total self.now.summands.now }
-        ensures values { result.0 ≤ℤ result.1 → Value result.0 × Value result.1 }
+    /// The least and the most that the total can be, by its own window and by those of the summands, or `None` where it has no value.
+    fn range(&self) -> Option<(i64, i64)>
+        ensures { MatchOption result (high_of self.now.windows.now self.now.total self.now.summands.now <ℤ low_of self.now.windows.now self.now.total self.now.summands.now) (λ r. Range self.now.windows.now self.now.total self.now.summands.now r.0 r.1) }
     {
         let (least, most) = self.sums();
         let window = self.windows[self.total];
-        (
-            least.max(i64::from(window.first)),
-            most.min(i64::from(window.last)),
-        )
+        let low = least.max(i64::from(window.first));
+        let high = most.min(i64::from(window.last));
+        if low > high { None } else { Some((low, high)) }
     }
 
     /// Cuts `windows` down to what the total leaves of the settled ones. `Void` leaves them as they were.
@@ -143,10 +140,9 @@ impl<'a, D: Distance> Settled<'a, D> {
         requires { length windows.old ≡ length self.now.windows.now }
         ensures { Meeting (length self.now.windows.now) (D.Distance.distance self.now.distances.now) self.now.total self.now.summands.now self.now.windows.now windows.old result windows.new }
     {
-        let (low, high) = self.range();
-        if low > high {
+        let Some((low, high)) = self.range() else {
             return Verdict::Void;
-        }
+        };
         for (j, window) in windows.iter_mut().enumerate() {
             *window = self.cut_at(j, low, high);
         }
