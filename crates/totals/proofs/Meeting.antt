@@ -1,5 +1,5 @@
 -- The loop that cuts every column by the total.
-use Rattle.std.proofs.Common.{◌≡◌, ℕ, zero, suc, ◌+◌, ◌<◌, ◌≤◌, true, List, length, set, ℤ, ◌+ℤ◌, ◌-ℤ◌, ◌≤ℤ◌, Ok, Err, Result, sym, refl, subst, inr, ⊎_elim, arith, get_or-set_other, get_or-set_same}
+use Rattle.std.proofs.Common.{◌≡◌, ℕ, zero, suc, ◌+◌, ◌<◌, ◌≤◌, true, List, length, set, ℤ, ◌+ℤ◌, ◌-ℤ◌, ◌≤ℤ◌, Ok, Err, Result, is_ok, sym, refl, subst, inr, ⊎_elim, arith, get_or-set_other, get_or-set_same}
 use Rattle.std.specs.Int.{int_max, int_min}
 use Rattle.std.proofs.lemmas.Int.{ints, clamps}
 use Rattle.std.proofs.lemmas.Bool.{cases_eq}
@@ -106,5 +106,6 @@ module _ (n : ℕ) (d : ℕ → ℕ → ℤ) (us vs ms : List Window) (copy : us
   pub copy_void : (r : Result Verdict Fault) → r ≡ Ok Void → Narrowed (distance_meaning n d) us r ms → NoPlan (obeys (length vs) d) vs
   copy_void r e h = (at_copy (Ok Void) (subst (λ (x : Result Verdict Fault). Narrowed (distance_meaning n d) us x ms) e h)).none
 
-  pub copy_taken : (r : Result Verdict Fault) (f : Fault) → r ≡ Err f → all_lawful vs ≡ true → Narrowed (distance_meaning n d) us r ms → ⊥
-  copy_taken r f e lawful h = never_refused (length vs) d vs ms f lawful refl (at_copy (Err f) (subst (λ (x : Result Verdict Fault). Narrowed (distance_meaning n d) us x ms) e h))
+  pub copy_taken : (r : Result Verdict Fault) → all_lawful vs ≡ true → Narrowed (distance_meaning n d) us r ms → is_ok r ≡ true
+  copy_taken (Ok v) lawful h = refl
+  copy_taken (Err f) lawful h = absurd (never_refused (length vs) d vs ms f lawful refl (at_copy (Err f) h))

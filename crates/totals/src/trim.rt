@@ -27,19 +27,18 @@ pub(crate) fn trim_total<D: Distance>(
     ensures { TotalOutcome (length windows.old) (D.Distance.distance distances.now) total summands.now windows.old result windows.new }
 {
     let mut room = [Window { first: 0, last: 0 }; MOST_COLUMNS];
-    let settled = &mut room[..windows.len()];
-    settled.copy_from_slice(windows);
-    match trim_by(distances, settled) {
-        Ok(Verdict::Open) => {
+    let copy = &mut room[..windows.len()];
+    copy.copy_from_slice(windows);
+    match trim_by(distances, copy).unwrap() {
+        Verdict::Void => Verdict::Void,
+        Verdict::Open => {
             let settled = Settled {
                 distances,
-                windows: settled,
+                windows: copy,
                 total,
                 summands,
             };
             settled.meet(windows)
         }
-        Ok(Verdict::Void) => Verdict::Void,
-        Err(_) => Verdict::Void,
     }
 }
