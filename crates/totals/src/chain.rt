@@ -16,7 +16,7 @@ use rules::window::MOST_COLUMNS;
 #[derive(Clone, Copy)]
 pub struct Chain {
     columns: usize,
-    places: [Option<usize>; 32],
+    places: [Option<usize>; MOST_COLUMNS],
     ghost some: { 1 ≤ columns },
     ghost few: { columns ≤ 32 },
 }

@@ -1,6 +1,6 @@
 //! What is judged of a total and its summands before a sum is set.
 
-ghost use Rattle.std.specs.Prelude.{◌≡◌, ℕ, ◌<◌, ◌≤◌, [], ◌∷◌, length};
+ghost use Rattle.std.specs.Prelude.{◌≡◌, ℕ, ◌<◌, [], ◌∷◌};
 ghost use Rattle.rules.specs.Refusals.{first_failing, answer};
 ghost use Rattle.totals.specs.Sums.{there, first_again, sum_refusal, SumJudged};
 ghost use Rattle.totals.specs.Cuts.{Columns};
@@ -10,7 +10,7 @@ use rules::window::MOST_COLUMNS;
 use rules::{Fault, check_columns};
 
 /// The index of the first summand whose column is not there.
-pub(crate) fn first_absent(columns: usize, summands: &[usize]) -> Option<usize>
+pub(crate) fn first_summand_absent(columns: usize, summands: &[usize]) -> Option<usize>
     ensures { result ≡ first_failing (there columns) summands.now }
 {
     summands.iter().position(|column| *column >= columns)
@@ -43,7 +43,7 @@ pub fn check_sum(columns: usize, total: usize, summands: &[usize]) -> Result<(),
     if total >= columns {
         return Err(Fault::NoColumn(0));
     }
-    if let Some(at) = first_absent(columns, summands) {
+    if let Some(at) = first_summand_absent(columns, summands) {
         return Err(Fault::NoColumn(at + 1));
     }
     if summands.len() < 1 || summands.len() > MOST_SUMMANDS {

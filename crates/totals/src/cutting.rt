@@ -12,6 +12,7 @@ use differences::Distance;
 use rules::{Verdict, Window};
 
 /// Windows that distances have trimmed, with a total and its summands among their columns.
+// That `j` is one of the columns is asked of each caller: it is a fact of a number and the windows together.
 #[derive(Drop)]
 pub(crate) struct Settled<'a, D: Distance> {
     pub(crate) distances: &'a D,
@@ -27,12 +28,12 @@ pub(crate) struct Settled<'a, D: Distance> {
 }
 
 /// Writes the limit of each summand.
-// Into the caller's row: one that is handed out is copied.
 fn fill<F: Fn(usize) -> Limit>(row: &mut [Limit], summands: &[usize], limit: F)
     requires even { length row.old ≡ length summands.now }
     requires callable { (a : ℕ) → a < length summands.now → F.pre limit (column_at summands.now a) }
     ensures each { (a : ℕ) → a < length summands.now → F.post limit (column_at summands.now a) (limit_at row.new a) }
 {
+    // Into the caller's row: one that is handed out is copied.
     // By the index: while a zip with `iter_mut` lends the row, an invariant cannot name it.
     for (a, place) in row.iter_mut().enumerate() {
         *place = limit(summands[a]);

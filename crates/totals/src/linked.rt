@@ -17,6 +17,7 @@ pub mod rule;
 ///
 /// It is full: every value of every window that it leaves is in an allowed plan. A row that no `set` could have made means what a fresh
 /// one means.
+// The facts stand under `row_refusal terms ≡ None →`: `Terms` is one row for all sums, and what it means unset, it means here too.
 #[derive(Clone, Copy)]
 pub struct LinkedSum {
     terms: Terms,

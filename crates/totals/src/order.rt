@@ -27,6 +27,7 @@ pub trait Order: Distance + Copy {
 ///
 /// It is full: every value of every window that it leaves is in an allowed plan. A row that no `set` could have made means what a
 /// fresh one means.
+// No `Option` and no ghost field: rows are copied out of lists as they are, and every bit pattern means something.
 #[derive(Clone, Copy)]
 pub struct OrderedSum<D> {
     terms: Terms,

@@ -44,7 +44,7 @@ impl Limit {
         ensures high { result.sum ≤ℤ pos 30000000 }
     {
         let up = v + self.way;
-        let moving = if up < self.top { 1 } else { 0 };
+        let moving = u64::from(up < self.top);
         Reached {
             sum: i64::from(self.top.min(up)),
             moving,

@@ -6,6 +6,8 @@ use crate::chain::Chain;
 use crate::order::{Order, OrderedSum};
 
 /// Allows the plans in which the total equals the summands added up and the summands, in the order given, never fall.
+///
+/// `set` takes a total and summands that, in the order given, never fall.
 pub type RisingSum = OrderedSum<Chain>;
 
 impl Order for Chain {

@@ -11,6 +11,7 @@ use crate::reaching::MOST_SUMMANDS;
 use rules::{Fault, ShortList};
 
 /// A total and its summands, on a board of so many columns. What `check_sum` would refuse is no sum.
+// No `Option` and no ghost field: rows are copied out of lists as they are, and every bit pattern means something.
 #[derive(Clone, Copy)]
 pub struct Terms {
     pub columns: usize,

@@ -5,8 +5,7 @@ ghost use Rattle.rules.specs.Refusals.{first_failing};
 ghost use Rattle.totals.specs.Cuts.{Columns};
 ghost use Rattle.totals.specs.Linked.{other_columns, link_entry, first_absent, first_repeated, linked_refusal, LinkedJudged, LinkedChecked};
 
-use crate::check;
-use crate::check::first_again;
+use crate::check::{first_again, first_summand_absent};
 use crate::reaching::MOST_SUMMANDS;
 use differences::Link;
 use differences::check::{MOST_LINKS, first_absent, first_unbounded};
@@ -53,7 +52,7 @@ impl<'a> Entries<'a> {
         if self.total >= columns {
             return Some(0);
         }
-        if let Some(at) = check::first_absent(columns, self.summands) {
+        if let Some(at) = first_summand_absent(columns, self.summands) {
             return Some(at + 1);
         }
         let at = first_absent(columns, self.links)?;
@@ -88,6 +87,7 @@ pub fn check_linked(
     ensures value { LinkedChecked columns total summands.now links.now result }
     ensures law { LinkedJudged columns total summands.now links.now (linked_refusal columns total summands.now links.now) }
 {
+    // Not by `check_sum` first: a column of a link that is not there (2) goes before the number of summands (9).
     check_columns(columns)?;
     let entries = Entries {
         columns,

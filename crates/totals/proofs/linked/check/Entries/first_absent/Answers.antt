@@ -16,12 +16,12 @@ returns-in-Some c = sym (summand_absent _ _ c.args.self.now.summands.now c.args.
 pub returns-in_err-at : goal.returns-in_err-at
 returns-in_err-at c =
     c.from_residual.ensures
-    ∙ sym (link_absent_at _ _ c.args.self.now.summands.now c.args.self.now.links.now c.if-self-columns.false (search rules) None (sym c.first_absent-2.ensures ∙ c.in_err-at.was))
+    ∙ sym (link_absent_at _ _ c.args.self.now.summands.now c.args.self.now.links.now c.if-self-columns.false (search rules) None (sym c.first_absent.ensures ∙ c.in_err-at.was))
 
 pub link_entry-requires : goal.link_entry-requires
-link_entry-requires c = first_within (present c.args.self.now.columns) c.args.self.now.links.now c.in_ok-at.at (sym c.first_absent-2.ensures ∙ c.in_ok-at.was)
+link_entry-requires c = first_within (present c.args.self.now.columns) c.args.self.now.links.now c.in_ok-at.at (sym c.first_absent.ensures ∙ c.in_ok-at.was)
 
 pub returns : goal.returns
 returns c =
     ap Some c.link_entry.ensures
-    ∙ sym (link_absent_at _ _ c.args.self.now.summands.now c.args.self.now.links.now c.if-self-columns.false (search rules) (Some c.in_ok-at.at) (sym c.first_absent-2.ensures ∙ c.in_ok-at.was))
+    ∙ sym (link_absent_at _ _ c.args.self.now.summands.now c.args.self.now.links.now c.if-self-columns.false (search rules) (Some c.in_ok-at.at) (sym c.first_absent.ensures ∙ c.in_ok-at.was))
