@@ -1,12 +1,12 @@
 -- Every total between those of two plans is that of a plan between them.
-use Rattle.std.proofs.Common.{◌≡◌, ℕ, zero, suc, ◌<◌, ℤ, pos, ◌+ℤ◌, ◌-ℤ◌, nat_abs, ◌≤ℤ◌, ◌<ℤ◌, Some, Option, inl, inr, arith}
+use Rattle.std.proofs.Common.{◌∙◌, sym, ◌≡◌, ℕ, zero, suc, ◌<◌, ℤ, pos, ◌+ℤ◌, ◌-ℤ◌, nat_abs, ◌≤ℤ◌, ◌<ℤ◌, Some, Option, inl, inr, arith}
 use Rattle.std.proofs.lemmas.Int.{ints, clamps, by_lt_z}
 use Rattle.differences.proofs.Raising.{Under}
 use Rattle.rings.proofs.Steps.{most_is}
 use Rattle.rings.proofs.Ways.{Ways, OnWays}
 use Rattle.totals.specs.Adding.{total}
 use Rattle.totals.proofs.Adding.{sum_mono, sum_gap, sum_one, find_gap}
-use Rattle.totals.proofs.Growing.{raised, raised_keeps, raised_over, raised_under, raised_at, lift_rises, some_same}
+use Rattle.totals.proofs.Growing.{raised, raised_keeps, raised_over, raised_under, raised_at, lift_rises}
 
 -- the summands stand at n places, s a is the column of place a; no two places are tied
 pub record Summands (k : ℕ) (w : ℕ → ℕ → Option ℤ) (n : ℕ) (s : ℕ → ℕ) : Type 0 where
@@ -55,7 +55,7 @@ module _ (k : ℕ) (w : ℕ → ℕ → Option ℤ) (n : ℕ) (s : ℕ → ℕ) 
       let (v, e, le) = lift_rises (y (s b)) (y (s a) +ℤ pos 1) (w (s b) (s a)) (omega (arith, ints, hb, h2)) in
       let (u, f, le') = lift_rises (y (s a)) (y (s b) +ℤ pos 1) (w (s a) (s b)) (omega (arith, ints, ha, h4)) in
       let (z0, g, zero-le) = most_is (w (s a) (s a)) (u +ℤ v) (cl.short (s a) (s b) (s a) (sm.column a la) (sm.column b lb) (sm.column a la) u v f e) in
-      let same : z0 ≡ pos 0 = some_same (w (s a) (s a)) z0 (pos 0) g (cl.zeros (s a) (sm.column a la)) in
+      let same : z0 ≡ pos 0 = cc (g, cl.zeros (s a) (sm.column a la)) in
       sm.apart a b la lb ne u v f e (omega (arith, ints, hb, h2, ha, h4))
 
   strict : (y z : ℕ → ℤ) → Under k y z → OnWays k w y → OnWays k w z → (total n s y +ℤ pos 2) ≤ℤ total n s z → Strict y z

@@ -12,7 +12,6 @@ use Rattle.totals.specs.Rising.{rising_from, rising, rising_sum}
 use Rattle.totals.proofs.Adds.{sums-total, total-sums}
 use Rattle.totals.proofs.Ordered.{order_closed}
 use Rattle.totals.proofs.Plain.{total_apart}
-use Rattle.totals.proofs.Placing.{some_same}
 
 -- two columns that have places, and that of j is not after that of i
 record Later (places : List (Option ℕ)) (i j : ℕ) : Type 0 where
@@ -51,7 +50,7 @@ chain_order places =
           (λ no.
           let p = later_than places i m h ne in
           let q = later_than places m j g no in
-          let same : p.before ≡ q.at = some_same (sym p.there ∙ q.here) in
+          let same : p.before ≡ q.at = cc (sym p.there ∙ q.here) in
           is_later places i j p.at q.before p.here q.there (omega (arith, p.after, q.after)))
           (cases_eq m j))
           (cases_eq i m);
@@ -113,11 +112,11 @@ module _ (k t : ℕ) (ss : List ℕ) (places : List (Option ℕ)) (ht : t < k) (
   not_later : (a b : ℕ) → a < length ss → b < length ss → R (column_at ss b) (column_at ss a) ≡ true → a ≤ b
   not_later a b la lb h =
       ⊎_elim
-      (λ e. let s : b ≡ a = some_same (sym (P.own b lb) ∙ ap (place_of places) e ∙ P.own a la) in omega arith)
+      (λ e. let s : b ≡ a = cc (sym (P.own b lb) ∙ ap (place_of places) e ∙ P.own a la) in omega arith)
       (λ ne.
       let l = later_than places (column_at ss b) (column_at ss a) h ne in
-      let p : a ≡ l.before = some_same (sym (P.own a la) ∙ l.there) in
-      let q : b ≡ l.at = some_same (sym (P.own b lb) ∙ l.here) in
+      let p : a ≡ l.before = cc (sym (P.own a la) ∙ l.there) in
+      let q : b ≡ l.at = cc (sym (P.own b lb) ∙ l.here) in
       omega (arith, l.after))
       (cases_eq (column_at ss b) (column_at ss a))
 

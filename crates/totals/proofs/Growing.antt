@@ -1,5 +1,5 @@
 -- Plans that keep ways, raised in one column.
-use Rattle.std.proofs.Common.{◌≡◌, ℕ, ◌<◌, ℤ, pos, ◌+ℤ◌, ◌-ℤ◌, ◌≤ℤ◌, ◌<ℤ◌, Some, None, Option, refl, arith}
+use Rattle.std.proofs.Common.{◌∙◌, sym, ◌≡◌, ℕ, ◌<◌, ℤ, pos, ◌+ℤ◌, ◌-ℤ◌, ◌≤ℤ◌, ◌<ℤ◌, Some, None, Option, refl, arith}
 use Rattle.std.specs.Int.{int_max}
 use Rattle.std.proofs.lemmas.Int.{ints, clamps}
 use Rattle.differences.proofs.Raising.{Under}
@@ -14,9 +14,6 @@ lift y t (Some v) = int_max y (t -ℤ v)
 -- the least plan over y whose column p is t or more
 abbrev pub raised : (ℕ → ℕ → Option ℤ) → (ℕ → ℤ) → ℕ → ℤ → ℕ → ℤ
 raised w y p t i = lift (y i) t (w i p)
-
-pub some_same : (o : Option ℤ) (u v : ℤ) → o ≡ Some u → o ≡ Some v → u ≡ v
-some_same o u v e f = cc
 
 pub lift_over : (y t : ℤ) (o : Option ℤ) → y ≤ℤ lift y t o
 lift_over y t None = omega (arith, ints)
@@ -60,5 +57,5 @@ module _ (k : ℕ) (w : ℕ → ℕ → Option ℤ) (cl : Ways k w) where
         arith,
         ints,
         lift_by (y p) t (w p p) (pos 0) (cl.zeros p hp),
-        lift_most (y p) t (w p p) t h (λ v e. let z = some_same (w p p) v (pos 0) e (cl.zeros p hp) in omega (arith, ints)),
+        lift_most (y p) t (w p p) t h (λ v e. let z : v ≡ pos 0 = cc (e, cl.zeros p hp) in omega (arith, ints)),
       )

@@ -7,13 +7,6 @@ use Rattle.std.proofs.lemmas.Bool.{cases_lt}
 use Rattle.totals.specs.declared.reaching.Limit.{Limit}
 use Rattle.totals.specs.Reaching.{limit_at, limited, still_rises, reach_to, moving_to, reach_of, moving_of, Least, Next, Value, Reachable, Moderate}
 
--- the test for a summand that still moves, taken and left
-pub moves : (up top : ℤ) (m : ℕ) → up <ℤ top → m ≡ 1 → m ≡ cond (lt_z up top) 1 0
-moves up top m h e = grind (arith, ints)
-
-pub rests : (up top : ℤ) (m : ℕ) → top ≤ℤ up → m ≡ 0 → m ≡ cond (lt_z up top) 1 0
-rests up top m h e = grind (arith, ints)
-
 -- what the loop over the summands has after a of them
 pub record Partly (ls : List Limit) (v : ℤ) (a : ℕ) (sum : ℤ) (moving : ℕ) : Type 0 where
   pub sum_is : sum ≡ reach_to ls v a

@@ -21,9 +21,6 @@ use Rattle.totals.specs.Cuts.{column_at, Columns, greatest_with, least_with, low
 pub record Cutting (d : ℕ → ℕ → ℤ) (ms : List Window) (t : ℕ) (ss : List ℕ) (low high : ℤ) (ws : List Window) (j : ℕ) : Type 0 where
   pub done : (i : ℕ) → i < j → CutAt d ms t ss i low high (window_at ws i)
 
-pub cutting_none : (d : ℕ → ℕ → ℤ) (ms : List Window) (t : ℕ) (ss : List ℕ) (low high : ℤ) (ws : List Window) → Cutting d ms t ss low high ws 0
-cutting_none d ms t ss low high ws = record { done = λ i l. absurd (omega arith) }
-
 pub cutting_more : (d : ℕ → ℕ → ℤ) (ms : List Window) (t : ℕ) (ss : List ℕ) (low high : ℤ) (ws : List Window) (j : ℕ) (w : Window) → j < length ws
     → Cutting d ms t ss low high ws j → CutAt d ms t ss j low high w → Cutting d ms t ss low high (set ws j w) (j + 1)
 cutting_more d ms t ss low high ws j w l c here =

@@ -13,10 +13,6 @@ pub record Placing (ss : List ℕ) (places : List (Option ℕ)) (n : ℕ) : Type
   pub within : (c a : ℕ) → place_of places c ≡ Some a → a < n
   pub stands : (c a : ℕ) → place_of places c ≡ Some a → column_at ss a ≡ c
 
--- two that are the same place
-pub some_same : {a b : ℕ} → ◌≡◌ {A = Option ℕ} (Some a) (Some b) → a ≡ b
-some_same e = cc
-
 -- no column has a place yet
 none_placed : (c a : ℕ) → place_of (replicate 32 None) c ≡ Some a → ⊥
 none_placed c a h =
@@ -49,12 +45,12 @@ placing_more ss places n lt there distinct p =
           (cases_eq a n);
       within = λ c a h.
           ⊎_elim
-          (λ e. let g : n ≡ a = some_same (sym (ap (place_of new) e ∙ here) ∙ h) in omega arith)
+          (λ e. let g : n ≡ a = cc (sym (ap (place_of new) e ∙ here) ∙ h) in omega arith)
           (λ ne. let w = p.within c a (sym (other c ne) ∙ h) in omega arith)
           (cases_eq c s);
       stands = λ c a h.
           ⊎_elim
-          (λ e. let g : n ≡ a = some_same (sym (ap (place_of new) e ∙ here) ∙ h) in ap (column_at ss) (sym g) ∙ sym e)
+          (λ e. let g : n ≡ a = cc (sym (ap (place_of new) e ∙ here) ∙ h) in ap (column_at ss) (sym g) ∙ sym e)
           (λ ne. p.stands c a (sym (other c ne) ∙ h))
           (cases_eq c s);
     }

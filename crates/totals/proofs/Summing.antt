@@ -10,9 +10,6 @@ pub record Summing (f : ℕ → ℤ) (n : ℕ) (sum : ℤ) : Type 0 where
   pub low : pos 0 ≤ℤ (sum +ℤ pos (30000000 * n))
   pub high : sum ≤ℤ pos (30000000 * n)
 
-pub summing_none : (f : ℕ → ℤ) → Summing f 0 (pos 0)
-summing_none f = record { is = omega (arith, ints); low = omega (arith, ints); high = omega (arith, ints) }
-
 pub summing_more : (f : ℕ → ℤ) (n : ℕ) (sum one sum' : ℤ) → Summing f n sum → one ≡ f n → Value one → sum' ≡ sum +ℤ one → Summing f (n + 1) sum'
 summing_more f n sum one sum' p e b s =
     let i = p.is in
