@@ -5,7 +5,7 @@ ghost use Rattle.rules.specs.Meaning.{tight_rule, fresh_rule};
 ghost use Rattle.rules.specs.Refusals.{answer};
 ghost use Rattle.totals.specs.Sums.{Kind, sum_refusal, SumJudged};
 ghost use Rattle.totals.specs.Orders.{Follows};
-ghost use Rattle.totals.specs.Terms.{row_meaning, kind_scope};
+ghost use Rattle.totals.specs.Terms.{row_refusal, row_summands, row_meaning, kind_scope};
 
 use crate::terms::Terms;
 use crate::trim::trim_total;
@@ -17,10 +17,10 @@ use std::marker::PhantomData;
 pub trait Order: Distance + Copy {
     ghost kind: { Kind };
 
-    /// The distances of a total and summands that are not refused.
-    fn of_sum(columns: usize, total: usize, summands: &[usize]) -> Self
-        requires { sum_refusal columns total summands.now ≡ None }
-        ensures { Follows columns total summands.now (kind total summands.now) (Self.width result) (Self.distance result) };
+    /// The distances of a row that is a sum.
+    fn of_sum(terms: &Terms) -> Self
+        requires { row_refusal terms.now ≡ None }
+        ensures { Follows terms.now.columns terms.now.total (row_summands terms.now) (kind terms.now.total (row_summands terms.now)) (Self.width result) (Self.distance result) };
 }
 
 /// Allows the plans of one kind of sum: in each the total equals the summands added up.
@@ -71,8 +71,8 @@ impl<D: Order> Rule for OrderedSum<D> {
             return Ok(Verdict::Open);
         }
         let terms = &self.terms;
+        let distances = D::of_sum(terms);
         let summands = terms.summands.as_slice();
-        let distances = D::of_sum(terms.columns, terms.total, summands);
         Ok(trim_total(&distances, terms.total, summands, windows))
     }
 }

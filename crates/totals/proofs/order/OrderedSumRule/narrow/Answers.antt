@@ -15,14 +15,14 @@ returns-then-not-is_set g c =
 pub of_sum-distances-requires : goal.of_sum-distances-requires
 of_sum-distances-requires g c =
     let ok = answer_ok _ (sym c.in_ok-check_windows.ensures.value) in
-    rw c.as_slice-summands.ensures (row_given g.D.Order.kind c.args.self.now.terms c.width.result c.args.windows.now c.width.ensures ok (sym c.if-not-is_set.ensures)).none
+    (row_given g.D.Order.kind c.args.self.now.terms c.width.result c.args.windows.now c.width.ensures ok (sym c.if-not-is_set.ensures)).none
 
 pub trim_total-requires : goal.trim_total-requires
 trim_total-requires g c =
     let ok = answer_ok _ (sym c.in_ok-check_windows.ensures.value) in
     let given = row_given g.D.Order.kind c.args.self.now.terms c.width.result c.args.windows.now c.width.ensures ok (sym c.if-not-is_set.ensures) in
     let held = c.as_slice-summands.ensures in
-    let follows = rw held at c.of_sum-distances.ensures in
+    let follows = c.of_sum-distances.ensures in
     record {
       width = given.long ∙ sym follows.width_is;
       closed = follows_closed _ _ _ _ _ _ follows _;
@@ -42,5 +42,5 @@ returns g c =
       same = refl;
       outcome =
           row_narrowed g.D.Order.kind c.args.self.now.terms c.width.result c.args.windows.now c.width.ensures ok given _ _
-          (follows_meets _ _ _ _ _ _ (rw held at c.of_sum-distances.ensures)) c.trim_total.result c.trim_total.new.windows (rw held at c.trim_total.ensures);
+          (follows_meets _ _ _ _ _ _ c.of_sum-distances.ensures) c.trim_total.result c.trim_total.new.windows (rw held at c.trim_total.ensures);
     }

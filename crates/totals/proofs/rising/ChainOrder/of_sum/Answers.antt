@@ -8,7 +8,7 @@ use Rattle.totals.proofs.rising.ChainOrder.of_sum.Goals as goal
 pub of-requires : goal.of-requires
 of-requires c =
     let taken = sum_taken _ _ _ c.requires in
-    record { some = taken.some; few = taken.few; there = taken.columns; distinct = summands_apart _ _ taken.distinct }
+    rw c.as_slice.ensures record { some = taken.some; few = taken.few; there = taken.columns; distinct = summands_apart _ _ taken.distinct }
 
 pub returns : goal.returns
 returns c =
@@ -17,5 +17,5 @@ returns c =
       width_is = c.of.ensures.width;
       order = not_after c.of.result.places;
       by_order = refl;
-      totals = rising_totals _ _ _ _ taken.total taken.columns taken.distinct c.of.ensures.placed;
+      totals = rising_totals _ _ _ _ taken.total taken.columns taken.distinct (rw c.as_slice.ensures at c.of.ensures.placed);
     }
