@@ -1,8 +1,7 @@
 -- The numbers that the search for an end works on: the total it reaches is that of plans with one column fixed.
-use Rattle.std.proofs.Common.{◌≡◌, ℕ, zero, suc, ◌<◌, ◌≤◌, true, List, length, take, ℤ, pos, ◌-ℤ◌, ◌≤ℤ◌, sym, refl, ap, ◌∙◌, subst, arith, w32, w64, to_z, of_z}
+use Rattle.std.proofs.Common.{◌≡◌, ℕ, zero, suc, ◌<◌, true, List, length, ℤ, pos, ◌-ℤ◌, ◌≤ℤ◌, sym, refl, ap, subst, arith, w32, w64, to_z, of_z}
 use Rattle.std.specs.Int.{int_max, int_min}
 use Rattle.std.proofs.lemmas.Int.{ints, clamps}
-use Rattle.std.proofs.lemmas.List.{get_or-take, length-take-le}
 use Rattle.rules.specs.declared.window.Window.{Window}
 use Rattle.rules.specs.Plans.{all_lawful, window_at}
 use Rattle.rules.proofs.Windows.{Ends, lawful_at, lawful_ends}

@@ -1,4 +1,4 @@
-use Rattle.std.proofs.Common.{refl, arith}
+use Rattle.std.proofs.Common.{arith}
 use Rattle.std.proofs.lemmas.Int.{ints}
 use Rattle.totals.proofs.Meeting.{cutting_more, cutting_all, most_at_last, least_at_first}
 use Rattle.totals.proofs.cutting.Settled.meet.Goals as goal
