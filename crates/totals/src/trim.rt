@@ -7,7 +7,7 @@ ghost use Rattle.totals.specs.Cuts.{Columns, TotalOutcome};
 
 use crate::cutting::Settled;
 use differences::{Distance, trim_by};
-use rules::window::MOST_COLUMNS;
+use rules::window::ROOM;
 use rules::{Verdict, Window};
 
 /// Trims windows by the distances and by the total of the summands. `Void` leaves them as they were.
@@ -26,7 +26,7 @@ pub(crate) fn trim_total<D: Distance>(
     requires here { total < length windows.old }
     ensures { TotalOutcome (length windows.old) (D.Distance.distance distances.now) total summands.now windows.old result windows.new }
 {
-    let mut room = [Window { first: 0, last: 0 }; MOST_COLUMNS];
+    let mut room = ROOM;
     let copy = &mut room[..windows.len()];
     copy.copy_from_slice(windows);
     match trim_by(distances, copy).unwrap() {
