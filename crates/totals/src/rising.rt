@@ -8,7 +8,7 @@ use crate::terms::Terms;
 
 /// Allows the plans in which the total equals the summands added up and the summands, in the order given, never fall.
 ///
-/// `set` takes a total and summands that, in the order given, never fall.
+/// `set` takes the total, and the summands in the order in which they never fall.
 pub type RisingSum = OrderedSum<Chain>;
 
 impl Order for Chain {
