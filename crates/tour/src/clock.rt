@@ -8,6 +8,7 @@ pub struct Clock(pub i32);
 
 impl fmt::Display for Clock {
     fn fmt<W: fmt::Write>(&self, f: &mut fmt::Formatter<W>) -> fmt::Result {
+        // Both arms print something, so there is no error to hand on.
         match u32::try_from(self.0) {
             Ok(minutes) => {
                 let hour = minutes / 60;
