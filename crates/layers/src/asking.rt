@@ -19,6 +19,7 @@ pub(crate) fn ask<R: Rule>(rule: &mut R, windows: &mut [Window]) -> Verdict
     rule.narrow(&mut windows[0..columns]).unwrap()
 }
 
+// Not `ask`: what that ensures is about leading windows and others after them, and here there are no others.
 /// Asks a rule on windows in its own number.
 pub(crate) fn ask_all<R: Rule>(rule: &mut R, windows: &mut [Window]) -> Verdict
     requires { window_refusal (R.Rule.meaning rule.old).scope.width windows.old ≡ None }

@@ -10,12 +10,12 @@ mod filling;
 mod rings;
 mod ties;
 
-// No heap: the room is that of the largest board.
 /// From one column to each: the length of a walk, or none.
 type Row = [Option<i64>; MOST_COLUMNS];
 
-// That there are at most 32 columns is a clause of `pass`, not a ghost field: the check does not lend a row of a struct with one yet.
-// So the closed table, which has ghost fields, is a type of its own.
+// No heap: the room is that of the largest board, here and in the closed table.
+// That there are at most 32 columns is a clause of `pass`, not a ghost field: that was tried, and the check does not lend a row of a struct
+// with one yet. So the closed table, which has ghost fields, is a type of its own.
 /// The table while walks are entered. The entries of its leading columns count.
 #[derive(Drop)]
 pub(crate) struct Table {

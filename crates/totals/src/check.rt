@@ -33,6 +33,7 @@ pub(crate) fn first_again(total: usize, summands: &[usize]) -> Option<usize>
     None
 }
 
+// The columns, the total and the summands are three parameters, as callers have them; `Terms` is what keeps them.
 /// Refuses a number of columns outside 1 to 32 (1), then the first entry whose column is not there (2), then no summand or more than
 /// 31 (9), then the first entry that names a column again (10). The entries are the total, then the summands.
 pub fn check_sum(columns: usize, total: usize, summands: &[usize]) -> Result<(), Fault>
@@ -46,6 +47,7 @@ pub fn check_sum(columns: usize, total: usize, summands: &[usize]) -> Result<(),
     if let Some(at) = first_summand_absent(columns, summands) {
         return Err(Fault::NoColumn(at + 1));
     }
+    // Two comparisons, and no range: the proof reads off them which side refused.
     if summands.len() < 1 || summands.len() > MOST_SUMMANDS {
         return Err(Fault::ListLength);
     }

@@ -34,7 +34,7 @@ fn fill<F: Fn(usize) -> Limit>(row: &mut [Limit], summands: &[usize], limit: F)
     ensures each { (a : ℕ) → a < length summands.now → F.post limit (column_at summands.now a) (limit_at row.new a) }
 {
     // Into the caller's row: one that is handed out is copied.
-    // By the index: while a zip with `iter_mut` lends the row, an invariant cannot name it.
+    // An index, not `zip`: after a `zip` over `iter_mut` nothing is known of what was written.
     for (a, place) in row.iter_mut().enumerate() {
         *place = limit(summands[a]);
     }

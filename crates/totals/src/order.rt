@@ -14,6 +14,7 @@ use rules::{Fault, Rule, Verdict, Window, check_windows};
 use std::marker::PhantomData;
 
 /// Distances by an order of the columns that a kind of sum keeps.
+// A trait, and no closure: it says which plans the kind allows.
 pub trait Order: Distance + Copy {
     ghost kind: { Kind };
 

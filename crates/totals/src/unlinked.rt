@@ -7,7 +7,7 @@ use differences::Distance;
 use differences::link::FARTHEST;
 
 /// The distances of 1 to 32 columns that nothing binds: 0 from a column to itself, else 60,000,000, which binds no two values.
-// A type of its own, and no `Chain` of no summands: its distance needs no look-up.
+// A type of its own, and no `Chain` of no summands, which would be no plainer: it says that nothing binds, and looks nothing up.
 #[derive(Clone, Copy)]
 pub struct Unlinked {
     columns: usize,

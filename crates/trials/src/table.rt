@@ -29,6 +29,7 @@ impl Entries {
 }
 
 /// A rule that entries can set.
+// A trait, and no closure: the rule itself is trimmed afterwards.
 pub trait SetByEntries {
     /// Sets the rule, and answers what that came to. Numbers that are no entries of the rule are an error.
     fn set_by(&mut self, heap: Global, entries: &Entries) -> io::Result<Setting>;

@@ -9,7 +9,7 @@ use crate::distances::Row;
 use crate::link::{FARTHEST, Link};
 use rules::window::MOST_COLUMNS;
 
-// The rows are lent, and no struct with ghost fields holds them yet: the check does not lend a row of such a struct.
+// The rows are lent, and no struct with ghost fields holds them: for walks that was tried, and the check does not lend a row of one yet.
 
 /// Lowers one entry of a row to `bound`.
 fn lower(row: &mut Row, column: usize, bound: i32)

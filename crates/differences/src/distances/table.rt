@@ -29,6 +29,7 @@ impl Distances {
     }
 }
 
+// That the links were judged is a clause, here and of walks along links: callers bring links in a list of their own.
 /// The table of links that were judged, or `None` where no plan of values keeps them.
 fn closed(columns: usize, links: &[Link]) -> Option<Distances>
     requires { links_refusal columns links.now ≡ None }

@@ -78,6 +78,7 @@ fn note(row: &mut Row, link: &Link)
     row[link.left] = shorter(row[link.left], Some(i64::from(link.bound)));
 }
 
+// The row is whole, since a row of the table is lent as it is; `columns` says how much of it counts.
 // Not shared with the distances of links: there no link is a number that binds nothing, and closing stops where no values are left.
 /// Shortens the leading entries of a row by way of a column that is `leg` away and leads on `through`.
 fn relax(row: &mut Row, columns: usize, through: &Row, leg: Option<i64>)

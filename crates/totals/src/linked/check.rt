@@ -98,6 +98,7 @@ pub fn check_linked(
     if let Some(at) = entries.first_absent() {
         return Err(Fault::NoColumn(at));
     }
+    // Comparisons, and no range: the proof reads off them which one refused.
     if summands.len() < 1 || summands.len() > MOST_SUMMANDS || links.len() > MOST_LINKS {
         return Err(Fault::ListLength);
     }
