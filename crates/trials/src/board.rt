@@ -64,6 +64,7 @@ impl Board {
     }
 
     /// How far column `left` lies above column `right`, and 0 where one is not there.
+    // No `Option`: no caller names such a column, and each would have to say so.
     pub(crate) fn distance(&self, left: usize, right: usize) -> i32 {
         match (self.columns.get(left), self.columns.get(right)) {
             (Some(above), Some(below)) => above.origin.saturating_sub(below.origin),

@@ -80,6 +80,7 @@ impl<'a, W: Words> Plans<'a, W> {
     }
 
     /// Puts a window in place of the column's, and answers that.
+    // No `Option`: no caller names a column that is not there, and each would have to say so.
     fn put(&mut self, column: usize, window: Window) -> Window {
         match self.windows.get_mut(column) {
             Some(place) => mem::replace(place, window),

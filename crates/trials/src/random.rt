@@ -24,6 +24,7 @@ impl Random {
     }
 
     /// A number below `count`, and 0 where that is 0.
+    // No `Option`: no caller draws from nothing, and each would have to say so.
     pub(crate) fn below(&mut self, count: usize) -> usize
         ensures below { 1 ≤ count → result < count }
         ensures within { result ≤ count }
