@@ -3,7 +3,6 @@
 use crate::clock::Clock;
 use crate::telling;
 use rules::{Rule, Verdict, Window};
-use std::alloc::AllocError;
 use std::{fmt, io};
 
 /// What the values of a board are.
@@ -24,18 +23,43 @@ impl fmt::Display for Values {
     }
 }
 
+/// What a column is about: a visit, or a work whose minutes it counts.
+#[derive(Clone, Copy)]
+pub enum Subject {
+    Service,
+    CoolerCheck,
+    Cleaning,
+    Inspection,
+    SpareParts,
+    Both,
+}
+
+impl Subject {
+    fn name(self) -> &'static str {
+        match self {
+            Subject::Service => "milking machine service",
+            Subject::CoolerCheck => "cooler check",
+            Subject::Cleaning => "cleaning",
+            Subject::Inspection => "tank inspection",
+            Subject::SpareParts => "spare parts",
+            Subject::Both => "both",
+        }
+    }
+}
+
 /// A visit or a work, and the window of its start or of its minutes.
+// An enum and no text: the check does not cover arrays of texts whose length is a parameter.
 #[derive(Clone, Copy)]
 pub struct Column {
-    name: &'static str,
+    subject: Subject,
     window: Window,
 }
 
 impl Column {
-    /// A column by its name and the ends of its window.
-    pub(crate) fn new(name: &'static str, first: i32, last: i32) -> Self {
+    /// A column by its subject and the ends of its window.
+    pub(crate) fn new(subject: Subject, first: i32, last: i32) -> Self {
         Column {
-            name,
+            subject,
             window: Window { first, last },
         }
     }
@@ -63,29 +87,23 @@ impl fmt::Display for Told {
 }
 
 /// The columns of a board, counted from 0.
-#[derive(Drop)]
-pub struct Board {
+// No heap: the tour runs where there is none to be had, as the rules do.
+#[derive(Clone, Copy)]
+pub struct Board<const N: usize> {
     values: Values,
-    columns: Vec<Column>,
+    columns: [Column; N],
 }
 
-impl Board {
+impl<const N: usize> Board<N> {
     /// A board of such values, with its columns in this order.
-    pub(crate) fn of(
-        rt: &HostRuntime,
-        values: Values,
-        columns: &[Column],
-    ) -> Result<Self, AllocError> {
-        Ok(Board {
-            values,
-            columns: columns.to_vec(rt.alloc())?,
-        })
+    pub(crate) fn of(values: Values, columns: [Column; N]) -> Self {
+        Board { values, columns }
     }
 
     /// Prints a line for each column: its number, its name and its window.
     pub(crate) fn list(&self, rt: &HostRuntime) -> io::Result<()> {
         for (number, column) in self.columns.iter().enumerate() {
-            let name = column.name;
+            let name = column.subject.name();
             let told = Told {
                 values: self.values,
                 window: column.window,
@@ -103,7 +121,10 @@ impl Board {
         rule: &mut R,
     ) -> io::Result<()> {
         // A copy without the names: a rule takes the windows as one slice.
-        let mut windows: Vec<Window> = self.columns.iter().map(|c| c.window).collect(rt.alloc())?;
+        let mut windows = [Window { first: 0, last: 0 }; N];
+        for (window, column) in windows.iter_mut().zip(&self.columns) {
+            *window = column.window;
+        }
         let values = self.values;
         match rules::trim(rule, &mut windows) {
             Ok(Verdict::Open) => println!(rt; "  {name}: open, and these {values} are left.")?,

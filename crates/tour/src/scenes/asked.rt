@@ -1,20 +1,18 @@
 //! What the dairy asks for.
 
-use crate::board::{Board, Column, Values};
+use crate::board::{Board, Column, Subject, Values};
 use crate::telling;
-use std::alloc::AllocError;
 use std::io;
 
 /// The visits of the day, with the starts that the dairy asks for: the tank inspection from 8 to 9, the others from 6 to 12.
-pub(crate) fn board(rt: &HostRuntime) -> Result<Board, AllocError> {
+pub(crate) fn board() -> Board<4> {
     Board::of(
-        rt,
         Values::Starts,
-        &[
-            Column::new("milking machine service", 360, 720),
-            Column::new("cooler check", 360, 720),
-            Column::new("cleaning", 360, 720),
-            Column::new("tank inspection", 480, 540),
+        [
+            Column::new(Subject::Service, 360, 720),
+            Column::new(Subject::CoolerCheck, 360, 720),
+            Column::new(Subject::Cleaning, 360, 720),
+            Column::new(Subject::Inspection, 480, 540),
         ],
     )
 }
@@ -28,5 +26,5 @@ pub(crate) fn tell(rt: &HostRuntime) -> io::Result<()> {
     println!(rt;
         "  A plan gives each visit one start, and the dairy asks that it lies in these windows."
     )?;
-    board(rt)?.list(rt)
+    board().list(rt)
 }

@@ -1,37 +1,34 @@
 //! Two visits by one crew, in either order.
 
-use crate::board::{Board, Column, Values};
+use crate::board::{Board, Column, Subject, Values};
 use crate::telling;
 use differences::Apart;
-use std::alloc::AllocError;
 use std::io;
 
 /// A day on which the spare parts have to come early.
-fn early(rt: &HostRuntime) -> Result<Board, AllocError> {
+fn early() -> Board<2> {
     Board::of(
-        rt,
         Values::Starts,
-        &[
-            Column::new("cleaning", 480, 530),
-            Column::new("spare parts", 500, 520),
+        [
+            Column::new(Subject::Cleaning, 480, 530),
+            Column::new(Subject::SpareParts, 500, 520),
         ],
     )
 }
 
 /// A day that leaves the cleaning much time.
-fn long(rt: &HostRuntime) -> Result<Board, AllocError> {
+fn long() -> Board<2> {
     Board::of(
-        rt,
         Values::Starts,
-        &[
-            Column::new("cleaning", 480, 600),
-            Column::new("spare parts", 530, 550),
+        [
+            Column::new(Subject::Cleaning, 480, 600),
+            Column::new(Subject::SpareParts, 530, 550),
         ],
     )
 }
 
 /// Trims the starts of the two visits.
-fn trim(rt: &HostRuntime, apart: &mut Apart, board: &mut Board) -> io::Result<()> {
+fn trim(rt: &HostRuntime, apart: &mut Apart, board: &mut Board<2>) -> io::Result<()> {
     println!(rt; "  The starts that are asked for:")?;
     board.list(rt)?;
     board.trim(rt, "Apart", apart)
@@ -47,11 +44,11 @@ pub(crate) fn tell(rt: &HostRuntime) -> io::Result<()> {
     )?;
     let mut apart = Apart::fresh();
     telling::setting(rt, "Apart", apart.set(2, 0, 1, 40))?;
-    trim(rt, &mut apart, &mut early(rt)?)?;
+    trim(rt, &mut apart, &mut early())?;
     println!(rt;
         "  The spare parts cannot come first, since 08:20 plus 40 minutes is after 08:50."
     )?;
-    trim(rt, &mut apart, &mut long(rt)?)?;
+    trim(rt, &mut apart, &mut long())?;
     println!(rt;
         "  Nothing is struck: the cleaning may come first or last. Its start at 09:00 is in no plan all the same."
     )?;

@@ -31,7 +31,7 @@ pub(crate) fn tell(rt: &HostRuntime) -> io::Result<()> {
     )?;
     let mut links = Links::fresh();
     telling::setting(rt, "Links", links.set(4, &waits()))?;
-    asked::board(rt)?.trim(rt, "Links", &mut links)?;
+    asked::board().trim(rt, "Links", &mut links)?;
     println!(rt;
         "  Links are full: whatever minute of its window is chosen for one visit, a plan has it."
     )

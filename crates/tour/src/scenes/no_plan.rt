@@ -1,6 +1,6 @@
 //! A day that has no plan.
 
-use crate::board::{Board, Column, Values};
+use crate::board::{Board, Column, Subject, Values};
 use crate::telling;
 use differences::{Link, Links};
 use std::io;
@@ -13,12 +13,11 @@ pub(crate) fn tell(rt: &HostRuntime) -> io::Result<()> {
     let mut links = Links::fresh();
     telling::setting(rt, "Links", links.set(2, &[Link::new(0, 1, -30)]))?;
     let mut board = Board::of(
-        rt,
         Values::Starts,
-        &[
-            Column::new("milking machine service", 360, 420),
-            Column::new("cooler check", 360, 380),
+        [
+            Column::new(Subject::Service, 360, 420),
+            Column::new(Subject::CoolerCheck, 360, 380),
         ],
-    )?;
+    );
     board.trim(rt, "Links", &mut links)
 }

@@ -1,30 +1,27 @@
 //! Calls that are refused.
 
-use crate::board::{Board, Column, Values};
+use crate::board::{Board, Column, Subject, Values};
 use crate::telling;
 use differences::{Link, Links};
-use std::alloc::AllocError;
 use std::io;
 
 /// The window of the cooler check is unlawful.
-fn backward(rt: &HostRuntime) -> Result<Board, AllocError> {
+fn backward() -> Board<2> {
     Board::of(
-        rt,
         Values::Starts,
-        &[
-            Column::new("milking machine service", 360, 420),
-            Column::new("cooler check", 480, 390),
+        [
+            Column::new(Subject::Service, 360, 420),
+            Column::new(Subject::CoolerCheck, 480, 390),
         ],
     )
 }
 
-fn right(rt: &HostRuntime) -> Result<Board, AllocError> {
+fn right() -> Board<2> {
     Board::of(
-        rt,
         Values::Starts,
-        &[
-            Column::new("milking machine service", 360, 480),
-            Column::new("cooler check", 360, 480),
+        [
+            Column::new(Subject::Service, 360, 480),
+            Column::new(Subject::CoolerCheck, 360, 480),
         ],
     )
 }
@@ -42,9 +39,9 @@ pub(crate) fn tell(rt: &HostRuntime) -> io::Result<()> {
     println!(rt;
         "  The rule stays as it was. A window is offered whose first start is after its last."
     )?;
-    backward(rt)?.trim(rt, "Links", &mut links)?;
+    backward().trim(rt, "Links", &mut links)?;
     println!(rt;
         "  With the first start at 06:00 and the last at 08:00 for both, the wait is still 30 minutes."
     )?;
-    right(rt)?.trim(rt, "Links", &mut links)
+    right().trim(rt, "Links", &mut links)
 }

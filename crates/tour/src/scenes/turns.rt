@@ -1,9 +1,8 @@
 //! Two rules on one board, asked in turn.
 
-use crate::board::{Board, Column, Values};
+use crate::board::{Board, Column, Subject, Values};
 use crate::telling;
 use differences::{Apart, Link, Links};
-use std::alloc::AllocError;
 use std::io;
 
 fn waits() -> [Link; 3] {
@@ -14,15 +13,14 @@ fn waits() -> [Link; 3] {
     ]
 }
 
-fn asked(rt: &HostRuntime) -> Result<Board, AllocError> {
+fn asked() -> Board<4> {
     Board::of(
-        rt,
         Values::Starts,
-        &[
-            Column::new("milking machine service", 360, 380),
-            Column::new("cooler check", 360, 480),
-            Column::new("cleaning", 450, 500),
-            Column::new("tank inspection", 460, 490),
+        [
+            Column::new(Subject::Service, 360, 380),
+            Column::new(Subject::CoolerCheck, 360, 480),
+            Column::new(Subject::Cleaning, 450, 500),
+            Column::new(Subject::Inspection, 460, 490),
         ],
     )
 }
@@ -32,7 +30,7 @@ fn turn(
     rt: &HostRuntime,
     links: &mut Links,
     apart: &mut Apart,
-    board: &mut Board,
+    board: &mut Board<4>,
 ) -> io::Result<()> {
     board.trim(rt, "Links", links)?;
     board.trim(rt, "Apart", apart)
@@ -50,7 +48,7 @@ pub(crate) fn tell(rt: &HostRuntime) -> io::Result<()> {
     telling::setting(rt, "Links", links.set(4, &waits()))?;
     let mut apart = Apart::fresh();
     telling::setting(rt, "Apart", apart.set(4, 2, 3, 40))?;
-    let mut board = asked(rt)?;
+    let mut board = asked();
     println!(rt; "  The starts that are asked for:")?;
     board.list(rt)?;
     turn(rt, &mut links, &mut apart, &mut board)?;

@@ -1,6 +1,6 @@
 //! Minutes of work that add up.
 
-use crate::board::{Board, Column, Values};
+use crate::board::{Board, Column, Subject, Values};
 use crate::telling;
 use differences::Link;
 use std::io;
@@ -13,14 +13,13 @@ pub(crate) fn tell(rt: &HostRuntime) -> io::Result<()> {
     )?;
     println!(rt; "  The cleaning takes at least 15 minutes less than the service.")?;
     let mut board = Board::of(
-        rt,
         Values::Minutes,
-        &[
-            Column::new("cleaning", 20, 60),
-            Column::new("milking machine service", 30, 90),
-            Column::new("both", 130, 140),
+        [
+            Column::new(Subject::Cleaning, 20, 60),
+            Column::new(Subject::Service, 30, 90),
+            Column::new(Subject::Both, 130, 140),
         ],
-    )?;
+    );
     board.list(rt)?;
     let shorter = Link::new(0, 1, -15);
     let mut sum = LinkedSum::fresh();
