@@ -107,18 +107,19 @@ impl<'a> Checks<'a> {
         self.judge(&Outcome { set, trimming }, line.outcome)
     }
 
-    /// Compares a rule with plain enumeration on random boards, each as `draw` draws it.
+    /// Compares a rule with plain enumeration on random boards. For each, `draw` makes the rule anew and draws the rest.
     pub(crate) fn boards<
-        R: Rule + Drop,
+        R: Rule,
         W: Words + Drop,
-        F: Fn(Global, &mut Random) -> Result<Trial<R, W>, AllocError>,
-    >(&mut self, seed: u64, claim: Claim, draw: F) -> io::Result<()>
+        F: Fn(Global, &mut Random, &mut R) -> Result<Trial<W>, AllocError>,
+    >(&mut self, seed: u64, claim: Claim, rule: &mut R, draw: F) -> io::Result<()>
         requires { F.IsAlwaysCallable draw }
     {
         let mut random = Random::from_seed(seed);
         let mut comparison = Comparison::new(self.rt, claim);
         for _ in 0..BOARDS {
-            comparison.board(draw(self.heap(), &mut random)?)?;
+            let trial = draw(self.heap(), &mut random, rule)?;
+            comparison.board(rule, trial)?;
         }
         self.made = self.made.saturating_add(u64::from(BOARDS));
         self.wrong = self.wrong.saturating_add(comparison.differing());

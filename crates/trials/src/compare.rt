@@ -34,10 +34,10 @@ impl Claim {
     }
 }
 
-/// A rule with what setting it answered, the words that it was set to, and the windows of a board.
+/// What setting a rule answered, the words that it was set to, and the windows of a board.
+// The rule is lent beside it: one that holds links is 10 KiB, and moving it took most of the time of a board.
 #[derive(Drop)]
-pub struct Trial<R, W> {
-    pub rule: R,
+pub struct Trial<W> {
     pub set: Result<(), Fault>,
     pub words: W,
     pub windows: Vec<Window>,
@@ -80,19 +80,19 @@ impl<'a> Comparison<'a> {
     }
 
     /// Trims the windows of a board by a rule, and prints the board where the rule and the enumeration differ.
-    pub(crate) fn board<R: Rule + Drop, W: Words + Drop>(
+    pub(crate) fn board<R: Rule, W: Words + Drop>(
         &mut self,
-        trial: Trial<R, W>,
+        rule: &mut R,
+        trial: Trial<W>,
     ) -> io::Result<()> {
         let Trial {
-            mut rule,
             set,
             words,
             windows,
         } = trial;
         let given = windows.as_slice();
         let mut left = given.to_vec(self.heap())?;
-        let answer = set.and_then(|()| rules::trim(&mut rule, &mut left));
+        let answer = set.and_then(|()| rules::trim(rule, &mut left));
         let trimming = Trimming {
             answer,
             given,

@@ -51,7 +51,12 @@ pub(crate) fn check(checks: &mut Checks<'_>) -> io::Result<()> {
     checks.title("Sums, fixed cases")?;
     cases::check(checks)?;
     checks.title("Sums, random boards against plain enumeration")?;
-    checks.boards(SEED, Claim::Full, draw::<Sum>)?;
+    checks.boards(SEED, Claim::Full, &mut Sum::fresh(), draw::<Sum>)?;
     checks.title("Rising sums, random boards against plain enumeration")?;
-    checks.boards(SEED, Claim::Full, draw::<RisingSum>)
+    checks.boards(
+        SEED,
+        Claim::Full,
+        &mut RisingSum::fresh(),
+        draw::<RisingSum>,
+    )
 }

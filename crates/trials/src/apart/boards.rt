@@ -47,15 +47,15 @@ fn draw_gap(random: &mut Random, distance: i32) -> i32 {
 pub(crate) fn draw(
     heap: Global,
     random: &mut Random,
-) -> Result<Trial<Apart, ApartWords>, AllocError> {
+    rule: &mut Apart,
+) -> Result<Trial<ApartWords>, AllocError> {
     let columns = random.below(3).saturating_add(2);
     let board = Board::draw(heap, random, columns)?;
     let (one, other) = random.two_below(columns);
     let gap = draw_gap(random, board.distance(one, other));
-    let mut rule = Apart::fresh();
+    *rule = Apart::fresh();
     Ok(Trial {
         set: rule.set(columns, one, other, gap),
-        rule,
         words: ApartWords { one, other, gap },
         windows: board.windows(heap)?,
     })

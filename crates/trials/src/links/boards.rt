@@ -103,14 +103,14 @@ fn draw_links(heap: Global, random: &mut Random, board: &Board) -> Result<Vec<Li
 pub(crate) fn draw(
     heap: Global,
     random: &mut Random,
-) -> Result<Trial<Links, LinkWords>, AllocError> {
+    rule: &mut Links,
+) -> Result<Trial<LinkWords>, AllocError> {
     let columns = random.below(4).saturating_add(1);
     let board = Board::draw(heap, random, columns)?;
     let links = draw_links(heap, random, &board)?;
-    let mut rule = Links::fresh();
+    *rule = Links::fresh();
     Ok(Trial {
         set: rule.set(columns, links.as_slice()),
-        rule,
         words: LinkWords { links },
         windows: board.windows(heap)?,
     })

@@ -45,19 +45,19 @@ fn draw_total(random: &mut Random, windows: &[Window], summands: &[usize]) -> Wi
 }
 
 /// The columns of a board and after them the total.
-pub(crate) fn draw<T: Total>(
+pub(crate) fn draw<T: Total + Drop>(
     heap: Global,
     random: &mut Random,
-) -> Result<Trial<T, SumWords>, AllocError> {
+    rule: &mut T,
+) -> Result<Trial<SumWords>, AllocError> {
     let total = random.below(3).saturating_add(1);
     let board = Board::draw(heap, random, total)?;
     let summands = draw_summands(heap, random, total)?;
     let mut windows = board.windows(heap)?;
     windows.push(draw_total(random, windows.as_slice(), summands.as_slice()))?;
-    let mut rule = T::fresh();
+    *rule = T::fresh();
     Ok(Trial {
         set: rule.set(total.saturating_add(1), total, summands.as_slice()),
-        rule,
         words: SumWords {
             total,
             summands,
