@@ -2,7 +2,7 @@
 
 ghost use Rattle.rings.specs.Rings.{RingsChecked};
 
-use crate::walks::ClosedTable;
+use crate::walks::{ClosedTable, Table};
 use differences::{Link, check_links};
 use rules::Fault;
 
@@ -12,7 +12,9 @@ pub fn check_rings(columns: usize, links: &[Link], summands: &[usize]) -> Result
     ensures { RingsChecked columns links.now summands.now result }
 {
     check_links(columns, links)?;
-    let table = ClosedTable::of(columns, links);
+    let mut table = Table::blank(columns);
+    table.fill(links);
+    let table = ClosedTable::of(&table);
     if let Some(column) = table.first_on_ring() {
         return Err(Fault::NegativeRing(column));
     }

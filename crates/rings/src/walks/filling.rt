@@ -2,7 +2,7 @@
 
 ghost use Rattle.std.specs.Prelude.{◌≡◌, ◌≢◌, ℕ, ◌<◌, ◌≤◌, Some, None};
 ghost use Rattle.differences.specs.Links.{links_refusal};
-ghost use Rattle.rings.specs.Tables.{at, entry, shorter, joined, Moderate, ModerateRow, ModerateRows, Relaxed, Stepped, Blank, Entered, Walks};
+ghost use Rattle.rings.specs.Tables.{at, entry, shorter, joined, Moderate, ModerateRow, ModerateRows, Relaxed, Stepped, Blank, Bounded, Entered, Walks};
 
 use crate::walks::{ClosedTable, Row, Table};
 use differences::Link;
@@ -10,7 +10,7 @@ use rules::window::MOST_COLUMNS;
 
 impl Table {
     /// A table that holds no walk yet.
-    fn blank(columns: usize) -> Table
+    pub(crate) fn blank(columns: usize) -> Table
         ensures columns { result.columns ≡ columns }
         ensures blank { Blank 32 result.rows }
     {
@@ -20,17 +20,16 @@ impl Table {
         }
     }
 
-    /// The table of the links, each of them a walk.
-    fn of(columns: usize, links: &[Link]) -> Table
-        requires { links_refusal columns links.now ≡ None }
-        ensures columns { result.columns ≡ columns }
-        ensures entered { Entered columns links.now (at result.rows) }
+    /// Enters the links into a blank table, each of them a walk.
+    fn enter(&mut self, links: &[Link])
+        requires blank { Blank 32 self.old.rows }
+        requires taken { links_refusal self.old.columns links.now ≡ None }
+        ensures columns { self.new.columns ≡ self.old.columns }
+        ensures entered { Entered self.old.columns links.now (at self.new.rows) }
     {
-        let mut table = Table::blank(columns);
         for link in links {
-            note(&mut table.rows[link.right], link);
+            note(&mut self.rows[link.right], link);
         }
-        table
     }
 
     /// Enters the ways by column `m` into each row.
@@ -48,23 +47,34 @@ impl Table {
             relax(row, columns, &through, leg);
         }
     }
+
+    /// Fills a blank table with the walks along the links, by any columns.
+    pub(crate) fn fill(&mut self, links: &[Link])
+        requires blank { Blank 32 self.old.rows }
+        requires taken { links_refusal self.old.columns links.now ≡ None }
+        ensures columns { self.new.columns ≡ self.old.columns }
+        ensures walks { Walks self.old.columns links.now self.old.columns (at self.new.rows) }
+        ensures bounded { Bounded self.old.columns 257698037760000000 (at self.new.rows) }
+    {
+        self.enter(links);
+        // A range, not the rows: each turn reads one row and writes all.
+        for m in 0..self.columns {
+            self.pass(m);
+        }
+    }
 }
 
-impl ClosedTable {
-    /// The walks along the links, by any columns.
-    pub(crate) fn of(columns: usize, links: &[Link]) -> ClosedTable
-        requires { links_refusal columns links.now ≡ None }
-        ensures columns { result.columns ≡ columns }
-        ensures walks { Walks columns links.now columns (at result.rows) }
+impl<'a> ClosedTable<'a> {
+    /// The table, once it is filled.
+    pub(crate) fn of(table: &'a Table) -> ClosedTable<'a>
+        requires few { table.now.columns ≤ 32 }
+        requires bounded { Bounded table.now.columns 257698037760000000 (at table.now.rows) }
+        ensures columns { result.columns ≡ table.now.columns }
+        ensures rows { result.rows.now ≡ table.now.rows }
     {
-        let mut table = Table::of(columns, links);
-        // A range, not the rows: each turn reads one row and writes all.
-        for m in 0..columns {
-            table.pass(m);
-        }
         ClosedTable {
-            columns,
-            rows: table.rows,
+            columns: table.columns,
+            rows: &table.rows,
         }
     }
 }
@@ -106,8 +116,9 @@ fn joined(leg: Option<i64>, rest: Option<i64>) -> Option<i64>
 fn shorter(known: Option<i64>, other: Option<i64>) -> Option<i64>
     ensures { result ≡ shorter known other }
 {
+    // The usual case first: most ways that closing asks for are not there.
     match (known, other) {
-        (Some(known), Some(other)) => Some(known.min(other)),
         (length, None) | (None, length) => length,
+        (Some(known), Some(other)) => Some(known.min(other)),
     }
 }

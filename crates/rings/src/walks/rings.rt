@@ -5,12 +5,12 @@ ghost use Rattle.rings.specs.Tables.{at, reaches, negative, ring_by, on_ring_bel
 
 use crate::walks::ClosedTable;
 
-impl ClosedTable {
+impl<'a> ClosedTable<'a> {
     /// Some walk leads from `i` to `j`, the empty one too.
     fn reaches(&self, i: usize, j: usize) -> bool
         requires i_there { i < self.now.columns }
         requires j_there { j < self.now.columns }
-        ensures { result ≡ reaches (at self.now.rows) i j }
+        ensures { result ≡ reaches (at self.now.rows.now) i j }
     {
         i == j || self.rows[i][j].is_some()
     }
@@ -18,7 +18,7 @@ impl ClosedTable {
     /// The table shows a ring below 0 at `j`.
     fn ring_at(&self, j: usize) -> bool
         requires { j < self.now.columns }
-        ensures { result ≡ negative (at self.now.rows j j) }
+        ensures { result ≡ negative (at self.now.rows.now j j) }
     {
         self.rows[j][j].is_some_and(|length| length < 0)
     }
@@ -27,7 +27,7 @@ impl ClosedTable {
     fn ring_by(&self, i: usize, j: usize) -> bool
         requires i_there { i < self.now.columns }
         requires j_there { j < self.now.columns }
-        ensures { result ≡ ring_by (at self.now.rows) i j }
+        ensures { result ≡ ring_by (at self.now.rows.now) i j }
     {
         self.reaches(i, j) && self.reaches(j, i) && self.ring_at(j)
     }
@@ -35,14 +35,14 @@ impl ClosedTable {
     /// Column `i` reaches a ring below 0 and is reached from it.
     fn on_ring_below(&self, i: usize) -> bool
         requires { i < self.now.columns }
-        ensures { result ≡ on_ring_below self.now.columns (at self.now.rows) i }
+        ensures { result ≡ on_ring_below self.now.columns (at self.now.rows.now) i }
     {
         (0..self.columns).any(|j| self.ring_by(i, j))
     }
 
     /// The smallest column on a ring below 0.
     pub(crate) fn first_on_ring(&self) -> Option<usize>
-        ensures { FirstBelow self.now.columns (on_ring_below self.now.columns (at self.now.rows)) result }
+        ensures { FirstBelow self.now.columns (on_ring_below self.now.columns (at self.now.rows.now)) result }
     {
         (0..self.columns).find(|i| self.on_ring_below(*i))
     }

@@ -6,5 +6,5 @@ use Rattle.rings.proofs.walks.ClosedTable.first_tied.Goals as goal
 
 pub returns : goal.returns
 returns c =
-    let test = is_tied c.args.self.now.columns (at c.args.self.now.rows) c.args.summands.now in
+    let test = is_tied c.args.self.now.columns (at c.args.self.now.rows.now) c.args.summands.now in
     first_below _ test _ (first_from_Range _ _ _ _ (λ i. test i ≡ true) (λ i. test i ≡ false) c.find.ensures.ran (λ x q k. search (rules, tests)) (λ x q k. search (rules, tests)))
