@@ -34,6 +34,10 @@ no_window = record { first = pos 0; last = pos 0 }
 abbrev Met : Window → Type 0
 Met w = w.first ≤ℤ w.last
 
+-- windows that are the same so far are cut as far
+pub cut_same : (k : ℕ) (d : ℕ → ℕ → ℤ) (vs us ws : List Window) (n : ℕ) → ((i : ℕ) → i < n → window_at ws i ≡ window_at us i) → AllCut k d vs us n → AllCut k d vs ws n
+cut_same k d vs us ws n same all = record { cut = λ i h. rw (same i h) (all.cut i h); met = λ i h. subst Met (sym (same i h)) (all.met i h) }
+
 -- the loop over the columns
 pub cut_more : (k : ℕ) (d : ℕ → ℕ → ℤ) (vs ws : List Window) (i : ℕ) (w : Window) → i < length ws → Cut k d vs i w → w.first ≤ℤ w.last → AllCut k d vs ws i → AllCut k d vs (set ws i w) (i + 1)
 cut_more k d vs ws i w lt cut met all =

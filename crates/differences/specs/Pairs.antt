@@ -1,6 +1,8 @@
 -- Two columns alone: what a relation between their values leaves of their windows.
 use Rattle.std.specs.Prelude.{◌≡◌, Bool, true, ℤ, ◌≤ℤ◌, Some, None, Option}
 use Rattle.rules.specs.declared.window.Window.{Window}
+-- passed on: the least window that holds two
+pub use Rattle.rules.specs.Plans.{spanned}
 
 -- the value x lies in the window w
 abbrev pub In : Window → ℤ → Type 0

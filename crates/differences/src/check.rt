@@ -5,10 +5,48 @@ ghost use Rattle.rules.specs.Refusals.{first_failing, answer};
 ghost use Rattle.differences.specs.Links.{present, two_columns, bounded, links_refusal, LinksJudged};
 
 use crate::link::Link;
-use rules::{Fault, check_columns};
+use rules::{Fault, Test, check_columns};
 
 /// A rule holds at most so many links.
 pub const MOST_LINKS: usize = 256;
+
+/// The test that both columns of a link are there.
+#[derive(Clone, Copy)]
+pub struct Present {
+    pub columns: usize,
+}
+
+impl Test<Link> for Present {
+    ghost accepts = { λ t l. present t.columns l };
+
+    fn passes(&self, item: Link) -> bool {
+        item.is_present(self.columns)
+    }
+}
+
+/// The test that a link joins two columns.
+#[derive(Clone, Copy)]
+pub struct TwoColumns;
+
+impl Test<Link> for TwoColumns {
+    ghost accepts = { λ _ l. two_columns l };
+
+    fn passes(&self, item: Link) -> bool {
+        item.has_two_columns()
+    }
+}
+
+/// The test that the bound of a link is in its range.
+#[derive(Clone, Copy)]
+pub struct Bounded;
+
+impl Test<Link> for Bounded {
+    ghost accepts = { λ _ l. bounded l };
+
+    fn passes(&self, item: Link) -> bool {
+        item.is_bounded()
+    }
+}
 
 /// The index of the first link that names a column that is not there.
 pub fn first_absent(columns: usize, links: &[Link]) -> Option<usize>

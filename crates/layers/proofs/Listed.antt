@@ -35,6 +35,11 @@ module _ {X : Type 0} (f : X → Meaning) (xs : List X) (i : ℕ) (l : length xs
   pub turn_done : (vs ws : List Window) → Turn (take i (map f xs)) vs ws → Turn (map f xs) vs ws
   turn_done vs ws t = subst (λ (ms : List Meaning). Turn ms vs ws) all_asked t
 
+-- no list of rules has fewer than one column
+pub some_columns : (ms : List Meaning) → 1 ≤ most_columns ms
+some_columns [] = omega arith
+some_columns (m ∷ ms) = let r = some_columns ms in omega arith
+
 -- the largest number of columns, with one rule more
 pub most_more : (ms : List Meaning) (m : Meaning) → most_columns (ms ++ m ∷ []) ≡ max (most_columns ms) m.scope.width
 most_more [] m = omega arith

@@ -40,3 +40,12 @@ module _ (k : ℕ) (ss : List ℤ) where
   pub offset_judged : OffsetJudged k ss (offset_refusal k ss)
   unfolding offset_refusal
   offset_judged = judge_count (leb (length ss) k) refl
+
+-- shifts that are not refused
+pub shifts_taken : (k : ℕ) (ss : List ℤ) → offset_refusal k ss ≡ None → (length ss ≤ k) × (all_shifts ss ≡ true)
+shifts_taken k ss e = by_words (offset_refusal k ss) e (offset_judged k ss)
+  where
+    by_words : (o : Option Fault) → o ≡ None → OffsetJudged k ss o → (length ss ≤ k) × (all_shifts ss ≡ true)
+    by_words _ n (too_many l) = let z : ◌≡◌ {A = ℕ} 0 1 = cc in absurd (omega arith)
+    by_words _ n (out_of_range i l f) = let z : ◌≡◌ {A = ℕ} 0 1 = cc in absurd (omega arith)
+    by_words _ n (accepted l f) = (l, f)

@@ -78,7 +78,7 @@ single_same ws vs h ok one =
     let inner = inside_at ws vs i h l in
     same_window (window_at ws i) (window_at vs i) inner ends (omega (arith, ints, width_is (window_at ws i) ends.order, width_is (window_at vs i) (omega (arith, ints))))
 
-width_most : (w : Window) → Ends w → window_width w ≤ 60000000
+pub width_most : (w : Window) → Ends w → window_width w ≤ 60000000
 width_most w e = omega (arith, ints, width_is w e.order)
 
 -- at most 32 windows are not wider than a number of 64 bits

@@ -1,6 +1,8 @@
 -- Two rules of which one is enough.
 use Rattle.std.specs.Prelude.{max, false, ◌&&◌, ◌||◌}
 use Rattle.rules.specs.Meaning.{Meaning}
+-- passed on: the least window that holds two
+pub use Rattle.rules.specs.Plans.{spanned}
 use Rattle.layers.specs.Leading.{leading}
 use Rattle.layers.specs.Owning.{own_rule}
 

@@ -1,6 +1,6 @@
 //! What a call judges before it does anything.
 
-ghost use Rattle.std.specs.Prelude.{◌≡◌, None, MatchResult};
+ghost use Rattle.std.specs.Prelude.{◌≡◌, Bool, None, MatchResult};
 ghost use Rattle.rules.specs.Plans.{lawful};
 ghost use Rattle.rules.specs.declared.fault.Fault.TheVariants.{ColumnCount};
 ghost use Rattle.rules.specs.Refusals.{first_failing, window_refusal, unless, counted, Counted, answer, Judged};
@@ -17,6 +17,39 @@ pub fn check_columns(columns: usize) -> Result<(), Fault>
         Ok(())
     } else {
         Err(Fault::ColumnCount)
+    }
+}
+
+/// A test that each entry of a list has to pass.
+pub trait Test<T> {
+    ghost accepts: { Self → T → Bool };
+
+    fn passes(&self, item: T) -> bool
+        ensures { result ≡ accepts self.now item };
+}
+
+/// The index of the first entry that fails the test.
+pub fn first_failing<T: Copy, P: Test<T>>(test: &P, items: &[T]) -> Option<usize>
+    ensures { result ≡ first_failing (P.Test.accepts test.now) items.now }
+{
+    // A loop, not `position`: the index that it answers is what the edit of this function gets wrong.
+    for (i, item) in items.iter().enumerate() {
+        if !test.passes(*item) {
+            return Some(i);
+        }
+    }
+    None
+}
+
+/// The test that both ends of a window are values, and the first is not above the last.
+#[derive(Clone, Copy)]
+pub struct Lawful;
+
+impl Test<Window> for Lawful {
+    ghost accepts = { λ _ w. lawful w };
+
+    fn passes(&self, item: Window) -> bool {
+        item.is_lawful()
     }
 }
 

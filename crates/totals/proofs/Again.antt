@@ -14,6 +14,11 @@ named_at c (d ∷ ds) h =
     (λ e. let (j, l, s) = named_at c ds e in (suc j, omega arith, s))
     (or_cases (eqb c d) (named c ds) h)
 
+pub at_named : (c : ℕ) (cs : List ℕ) (j : ℕ) → j < length cs → get_or cs j 0 ≡ c → named c cs ≡ true
+at_named c [] j l e = absurd (omega arith)
+at_named c (d ∷ ds) zero l e = or_left (eqb c d) (named c ds) (eq-eqb c d (sym e))
+at_named c (d ∷ ds) (suc j) l e = or_right (eqb c d) (named c ds) (at_named c ds j (omega arith) e)
+
 -- what is found: the first of cs that is named by seen or by an earlier one of cs
 pub record Found (seen cs : List ℕ) (i : ℕ) : Type 0 where
   pub within : i < length cs

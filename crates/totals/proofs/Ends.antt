@@ -1,5 +1,5 @@
 -- The numbers that the search for an end works on: the total it reaches is that of plans with one column fixed.
-use Rattle.std.proofs.Common.{◌≡◌, ℕ, zero, suc, ◌<◌, true, List, length, ℤ, pos, ◌-ℤ◌, ◌≤ℤ◌, sym, refl, ap, subst, arith, w32, w64, to_z, of_z}
+use Rattle.std.proofs.Common.{◌≡◌, ℕ, zero, suc, ◌<◌, true, List, length, ℤ, pos, ◌-ℤ◌, ◌≤ℤ◌, sym, refl, ap, ◌∙◌, subst, arith, w32, w64, to_z, of_z}
 use Rattle.std.specs.Int.{int_max, int_min}
 use Rattle.std.proofs.lemmas.Int.{ints, clamps}
 use Rattle.rules.specs.declared.window.Window.{Window}
@@ -9,8 +9,9 @@ use Rattle.differences.specs.Tables.{Closed}
 use Rattle.differences.specs.Ends.{first_at, last_at}
 use Rattle.totals.specs.Adding.{sum_to}
 use Rattle.totals.specs.declared.reaching.Limit.{Limit}
-use Rattle.totals.specs.Reaching.{limit_at, limited, reach_to, reach_of, Least, Value, Reachable, Moderate}
-use Rattle.totals.specs.Cuts.{column_at, Columns, greatest_with, least_with, FirstLeft, LastLeft, CutAt}
+use Rattle.totals.specs.Reaching.{number_at, limit_at, limits, limited, reach_to, reach_of, Least, Value, Reachable, Moderate}
+use Rattle.totals.proofs.LimitRows.{limits_long, limits_at}
+use Rattle.totals.specs.Cuts.{column_at, Columns, Tops, Bottoms, greatest_with, least_with, FirstLeft, LastLeft, CutAt}
 
 -- what the window of a column is between
 pub ends_at : (ws : List Window) (i : ℕ) → all_lawful ws ≡ true → i < length ws → Ends (window_at ws i)
@@ -26,9 +27,6 @@ reach_turned : (ls : List Limit) (v : ℤ) (g : ℕ → ℤ) (n : ℕ) → ((a :
 reach_turned ls v g zero h = refl
 reach_turned ls v g (suc n) h = let r = reach_turned ls v g n (λ a l. h a (omega arith)) in let e = h n (omega arith) in omega (arith, ints)
 
-pub limit_is : (top top' way way' : ℤ) → top ≡ top' → way ≡ way' → ◌≡◌ {A = Limit} (record { top = top; way = way }) (record { top = top'; way = way' })
-limit_is top top' way way' p q i = record { top = p i; way = q i }
-
 -- the limits that column j leaves each summand, upward and, with every sign turned, downward
 pub record Upward (d : ℕ → ℕ → ℤ) (ws : List Window) (ss : List ℕ) (j : ℕ) (ls : List Limit) : Type 0 where
   pub long : length ls ≡ length ss
@@ -40,13 +38,25 @@ pub record Downward (d : ℕ → ℕ → ℤ) (ws : List Window) (ss : List ℕ)
   pub top : (a : ℕ) → a < length ss → (limit_at ls a).top ≡ pos 0 -ℤ first_at ws (column_at ss a)
   pub way : (a : ℕ) → a < length ss → (limit_at ls a).way ≡ d (column_at ss a) j
 
--- the limits of a row
-module _ (d : ℕ → ℕ → ℤ) (ws : List Window) (ss : List ℕ) (j : ℕ) (row : List Limit) (long : length row ≡ length ss) where
-  pub upward_row : ((a : ℕ) → a < length ss → limit_at row a ≡ record { top = last_at ws (column_at ss a); way = d j (column_at ss a) }) → Upward d ws ss j row
-  upward_row is = record { long = long; top = λ a l. ap (λ (m : Limit). m.top) (is a l); way = λ a l. ap (λ (m : Limit). m.way) (is a l) }
+-- the limits of two rows
+module _ (d : ℕ → ℕ → ℤ) (ws : List Window) (ss : List ℕ) (j : ℕ) (tops ways : List ℤ) (long : length ways ≡ length ss) where
+  pub upward_row : Tops ws ss tops → ((a : ℕ) → a < length ss → number_at ways a ≡ d j (column_at ss a)) → Upward d ws ss j (limits tops ways)
+  upward_row t is =
+      let even : length ways ≡ length tops = long ∙ sym t.long in
+      record {
+        long = limits_long tops ways even ∙ t.long;
+        top = λ a l. ap (λ (m : Limit). m.top) (limits_at tops ways a even (omega (arith, t.long))) ∙ t.each a l;
+        way = λ a l. ap (λ (m : Limit). m.way) (limits_at tops ways a even (omega (arith, t.long))) ∙ is a l;
+      }
 
-  pub downward_row : ((a : ℕ) → a < length ss → limit_at row a ≡ record { top = pos 0 -ℤ first_at ws (column_at ss a); way = d (column_at ss a) j }) → Downward d ws ss j row
-  downward_row is = record { long = long; top = λ a l. ap (λ (m : Limit). m.top) (is a l); way = λ a l. ap (λ (m : Limit). m.way) (is a l) }
+  pub downward_row : Bottoms ws ss tops → ((a : ℕ) → a < length ss → number_at ways a ≡ d (column_at ss a) j) → Downward d ws ss j (limits tops ways)
+  downward_row t is =
+      let even : length ways ≡ length tops = long ∙ sym t.long in
+      record {
+        long = limits_long tops ways even ∙ t.long;
+        top = λ a l. ap (λ (m : Limit). m.top) (limits_at tops ways a even (omega (arith, t.long))) ∙ t.each a l;
+        way = λ a l. ap (λ (m : Limit). m.way) (limits_at tops ways a even (omega (arith, t.long))) ∙ is a l;
+      }
 
 module _ (d : ℕ → ℕ → ℤ) (ws : List Window) (ss : List ℕ) (j : ℕ) (ls : List Limit)
     (closed : Closed (length ws) d) (lawful : all_lawful ws ≡ true) (there : Columns (length ws) ss) (here : j < length ws) where

@@ -38,6 +38,11 @@ partly_more ls v u a sum sum' one moving moving' rise p e f same r lo hi s' m' =
       few = omega arith;
     }
 
+-- all summands
+pub partly_all : (ls : List Limit) (v u : ℤ) (a : ℕ) (sum : ℤ) (moving : ℕ) → Partly ls u a sum moving → u ≡ v → a ≡ length ls → (sum ≡ reach_of ls v) × (moving ≡ moving_of ls v)
+partly_all ls v u a sum moving p same all =
+    (p.sum_is ∙ ap (reach_to ls u) all ∙ ap (reach_of ls) same, p.moving_is ∙ ap (moving_to ls u) all ∙ ap (moving_of ls) same)
+
 at_most_one : (b : Bool) → cond b 1 0 ≤ 1
 at_most_one true = omega arith
 at_most_one false = omega arith

@@ -1,6 +1,7 @@
 pub mod Adding
 pub mod Growing
 pub mod Between
+pub mod LimitRows
 pub mod Jumping
 pub mod Supporting
 pub mod Again

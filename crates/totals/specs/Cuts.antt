@@ -1,5 +1,5 @@
 -- What a total leaves of windows that distances have trimmed.
-use Rattle.std.specs.Prelude.{◌≡◌, ℕ, ◌<◌, true, ◌⊎◌, List, length, ℤ, ◌+ℤ◌, ◌-ℤ◌, ◌≤ℤ◌, ◌<ℤ◌, ◌≢◌, slice_index}
+use Rattle.std.specs.Prelude.{◌≡◌, ℕ, ◌<◌, true, ◌⊎◌, List, length, ℤ, pos, ◌+ℤ◌, ◌-ℤ◌, ◌≤ℤ◌, ◌<ℤ◌, ◌≢◌, slice_index}
 use Rattle.std.specs.Int.{int_max, int_min}
 use Rattle.rules.specs.declared.window.Window.{Window}
 use Rattle.rules.specs.declared.verdict.Verdict.{Verdict}
@@ -8,7 +8,7 @@ use Rattle.rules.specs.Plans.{window_at, all_lawful, inside, Keeps, NoPlan, Trim
 use Rattle.differences.specs.Tables.{obeys, Obeys}
 use Rattle.differences.specs.Ends.{first_at, last_at}
 use Rattle.totals.specs.Adding.{total}
-use Rattle.totals.specs.Reaching.{Value}
+use Rattle.totals.specs.Reaching.{Value, number_at}
 
 -- the column of a summand
 abbrev pub column_at : List ℕ → ℕ → ℕ
@@ -24,6 +24,15 @@ least ws ss = total (length ss) (column_at ss) (first_at ws)
 
 abbrev pub most : List Window → List ℕ → ℤ
 most ws ss = total (length ss) (column_at ss) (last_at ws)
+
+-- the last values of the summands, and their first with every sign turned
+pub record Tops (ws : List Window) (ss : List ℕ) (row : List ℤ) : Type 0 where
+  pub long : length row ≡ length ss
+  pub each : (a : ℕ) → a < length ss → number_at row a ≡ last_at ws (column_at ss a)
+
+pub record Bottoms (ws : List Window) (ss : List ℕ) (row : List ℤ) : Type 0 where
+  pub long : length row ≡ length ss
+  pub each : (a : ℕ) → a < length ss → number_at row a ≡ pos 0 -ℤ first_at ws (column_at ss a)
 
 -- the greatest total with column j at v, and the least
 abbrev pub greatest_with : (ℕ → ℕ → ℤ) → List Window → List ℕ → ℕ → ℤ → ℤ

@@ -1,11 +1,20 @@
 -- How far a total reaches when one column stands at v: each summand is at most its top, and at most v plus its way.
-use Rattle.std.specs.Prelude.{◌≡◌, ℕ, zero, suc, ◌+◌, ◌*◌, ◌<◌, cond, List, length, ℤ, pos, negsuc, ◌+ℤ◌, ◌≤ℤ◌, ◌<ℤ◌, int_lt, slice_index_or}
+use Rattle.std.specs.Prelude.{◌≡◌, ℕ, zero, suc, ◌+◌, ◌*◌, ◌<◌, cond, List, [], ◌∷◌, length, ℤ, pos, negsuc, ◌+ℤ◌, ◌≤ℤ◌, ◌<ℤ◌, int_lt, slice_index_or}
 use Rattle.std.specs.Int.{int_min}
 use Rattle.totals.specs.declared.reaching.Limit.{Limit}
 
 -- the limit of summand a
 abbrev pub limit_at : List Limit → ℕ → Limit
 limit_at ls a = slice_index_or ls a (record { top = pos 0; way = pos 0 })
+
+abbrev pub number_at : List ℤ → ℕ → ℤ
+number_at xs a = slice_index_or xs a (pos 0)
+
+-- a row of tops and a row of ways, as limits
+abbrev pub limits : List ℤ → List ℤ → List Limit
+limits [] ways = []
+limits (top ∷ tops) [] = []
+limits (top ∷ tops) (way ∷ ways) = record { top = top; way = way } ∷ limits tops ways
 
 -- what a limit leaves when the column stands at v
 abbrev pub limited : Limit → ℤ → ℤ

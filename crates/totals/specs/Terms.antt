@@ -4,7 +4,9 @@ use Rattle.rules.specs.declared.fault.Fault.{Fault}
 use Rattle.rules.specs.ShortLists.{listed}
 use Rattle.rules.specs.Meaning.{Scope, Meaning, tight_rule, meaning_if}
 use Rattle.totals.specs.declared.terms.Terms.{Terms}
-use Rattle.totals.specs.Sums.{Kind, sum_refusal}
+use Rattle.totals.specs.Sums.{sum_refusal}
+-- passed on: which plans a kind of sum allows is said here too
+pub use Rattle.totals.specs.Sums.{Kind}
 
 -- the summands of a row
 abbrev pub row_summands : Terms → List ℕ

@@ -59,9 +59,12 @@ impl Distance for Chain {
         if i == j {
             return 0;
         }
-        match (self.place(i), self.place(j)) {
-            (Some(here), Some(there)) if there <= here => 0,
-            _ => FARTHEST,
+        // A column without a place comes before every place, so that one comparison serves both.
+        let there = self.place(j);
+        if there.is_some() && there <= self.place(i) {
+            0
+        } else {
+            FARTHEST
         }
     }
 }

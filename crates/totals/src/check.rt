@@ -7,7 +7,21 @@ ghost use Rattle.totals.specs.Cuts.{Columns};
 
 use crate::reaching::MOST_SUMMANDS;
 use rules::window::MOST_COLUMNS;
-use rules::{Fault, check_columns};
+use rules::{Fault, Test, check_columns};
+
+/// The test that a column is there.
+#[derive(Clone, Copy)]
+pub struct There {
+    pub columns: usize,
+}
+
+impl Test<usize> for There {
+    ghost accepts = { λ t c. there t.columns c };
+
+    fn passes(&self, item: usize) -> bool {
+        item < self.columns
+    }
+}
 
 /// The index of the first summand whose column is not there.
 pub(crate) fn first_summand_absent(columns: usize, summands: &[usize]) -> Option<usize>

@@ -4,10 +4,10 @@ ghost use Rattle.std.specs.Prelude.{◌≡◌, ℕ, ◌<◌, ◌≤◌, true, le
 ghost use Rattle.rules.specs.Plans.{all_lawful};
 ghost use Rattle.differences.specs.Tables.{Closed};
 ghost use Rattle.differences.specs.Ends.{first_at, last_at};
-ghost use Rattle.totals.specs.Reaching.{Value, Moderate, limit_at};
-ghost use Rattle.totals.specs.Cuts.{column_at, Columns, least, most, least_with, greatest_with, FirstLeft, LastLeft, CutAt, EndsObey, Meeting, low_of, high_of, Range};
+ghost use Rattle.totals.specs.Reaching.{Value, Moderate, number_at};
+ghost use Rattle.totals.specs.Cuts.{column_at, Columns, least, most, least_with, greatest_with, Tops, Bottoms, FirstLeft, LastLeft, CutAt, EndsObey, Meeting, low_of, high_of, Range};
 
-use crate::reaching::{Limit, Limits, MOST_SUMMANDS};
+use crate::reaching::{Limits, MOST_SUMMANDS};
 use differences::Distance;
 use rules::{Verdict, Window};
 
@@ -19,61 +19,74 @@ pub(crate) struct Settled<'a, D: Distance> {
     pub(crate) windows: &'a [Window],
     pub(crate) total: usize,
     pub(crate) summands: &'a [usize],
+    // Filled once: each search for an end reads them.
+    pub(crate) tops: &'a [i32],
+    pub(crate) bottoms: &'a [i32],
     ghost closed: { Closed (length windows.now) (D.Distance.distance distances.now) },
     ghost lawful: { all_lawful windows.now ≡ true },
     ghost ends: { EndsObey (length windows.now) (D.Distance.distance distances.now) windows.now },
     ghost few: { length summands.now ≤ 31 },
     ghost there: { Columns (length windows.now) summands.now },
     ghost here: { total < length windows.now },
+    ghost highest: { Tops windows.now summands.now tops.now },
+    ghost lowest: { Bottoms windows.now summands.now bottoms.now },
 }
 
-/// Writes the limit of each summand.
-fn fill<F: Fn(usize) -> Limit>(row: &mut [Limit], summands: &[usize], limit: F)
+/// Writes a number for each summand.
+fn fill<F: Fn(usize) -> i32>(row: &mut [i32], summands: &[usize], number: F)
     requires even { length row.old ≡ length summands.now }
-    requires callable { (a : ℕ) → a < length summands.now → F.pre limit (column_at summands.now a) }
-    ensures each { (a : ℕ) → a < length summands.now → F.post limit (column_at summands.now a) (limit_at row.new a) }
+    requires callable { (a : ℕ) → a < length summands.now → F.pre number (column_at summands.now a) }
+    ensures long { length row.new ≡ length summands.now }
+    ensures each { (a : ℕ) → a < length summands.now → F.post number (column_at summands.now a) (number_at row.new a) }
 {
     // Into the caller's row: one that is handed out is copied.
     // An index, not `zip`: after a `zip` over `iter_mut` nothing is known of what was written.
     for (a, place) in row.iter_mut().enumerate() {
-        *place = limit(summands[a]);
+        *place = number(summands[a]);
     }
 }
 
+/// Writes the last values of the summands.
+pub(crate) fn fill_tops(row: &mut [i32], windows: &[Window], summands: &[usize])
+    requires even { length row.old ≡ length summands.now }
+    requires there { Columns (length windows.now) summands.now }
+    ensures { Tops windows.now summands.now row.new }
+{
+    fill(row, summands, |i| windows[i].last);
+}
+
+/// Writes the first values of the summands, with every sign turned.
+pub(crate) fn fill_bottoms(row: &mut [i32], windows: &[Window], summands: &[usize])
+    requires even { length row.old ≡ length summands.now }
+    requires there { Columns (length windows.now) summands.now }
+    requires lawful { all_lawful windows.now ≡ true }
+    ensures { Bottoms windows.now summands.now row.new }
+{
+    fill(row, summands, |i| turned_first(windows, i));
+}
+
+/// The first value of column `i`, with its sign turned.
+fn turned_first(windows: &[Window], i: usize) -> i32
+    requires here { i < length windows.now }
+    requires lawful { all_lawful windows.now ≡ true }
+    ensures { result ≡ pos 0 -ℤ first_at windows.now i }
+{
+    -windows[i].first
+}
+
 impl<'a, D: Distance> Settled<'a, D> {
-    /// What column `j` leaves summand `i`: at most its last value, and at most column `j` plus the distance to it.
-    fn upward(&self, j: usize, i: usize) -> Limit
-        requires { i < length self.now.windows.now }
-        ensures { result ≡ record { top = last_at self.now.windows.now i; way = D.Distance.distance self.now.distances.now j i } }
-    {
-        Limit {
-            top: self.windows[i].last,
-            way: self.distances.between(j, i),
-        }
-    }
-
-    /// The same downward, with every sign turned: at most its first value, and at most column `j` plus the distance from it.
-    fn downward(&self, j: usize, i: usize) -> Limit
-        requires { i < length self.now.windows.now }
-        ensures { result ≡ record { top = pos 0 -ℤ first_at self.now.windows.now i; way = D.Distance.distance self.now.distances.now i j } }
-    {
-        Limit {
-            top: -self.windows[i].first,
-            way: self.distances.between(i, j),
-        }
-    }
-
     /// The first value of column `j` at which the total can be `low` or more.
     fn first_left(&self, j: usize, low: i64) -> i32
         requires here { j < length self.now.windows.now }
         requires most { low ≤ℤ greatest_with (D.Distance.distance self.now.distances.now) self.now.windows.now self.now.summands.now j (last_at self.now.windows.now j) }
         ensures { FirstLeft (D.Distance.distance self.now.distances.now) self.now.windows.now self.now.summands.now j low result }
     {
-        let mut room = [Limit { top: 0, way: 0 }; MOST_SUMMANDS];
-        let each = &mut room[..self.summands.len()];
-        fill(each, self.summands, |i| self.upward(j, i));
+        let mut room = [0; MOST_SUMMANDS];
+        let ways = &mut room[..self.summands.len()];
+        fill(ways, self.summands, |i| self.distances.between(j, i));
         let window = self.windows[j];
-        Limits { each }.least_reaching(low, window.first, window.last)
+        let tops = self.tops;
+        Limits { tops, ways }.least_reaching(low, window.first, window.last)
     }
 
     /// The last value of column `j` at which the total can be `high` or less: the same search with every sign turned.
@@ -83,11 +96,12 @@ impl<'a, D: Distance> Settled<'a, D> {
         requires moderate { Moderate high }
         ensures { LastLeft (D.Distance.distance self.now.distances.now) self.now.windows.now self.now.summands.now j high result }
     {
-        let mut room = [Limit { top: 0, way: 0 }; MOST_SUMMANDS];
-        let each = &mut room[..self.summands.len()];
-        fill(each, self.summands, |i| self.downward(j, i));
+        let mut room = [0; MOST_SUMMANDS];
+        let ways = &mut room[..self.summands.len()];
+        fill(ways, self.summands, |i| self.distances.between(i, j));
         let window = self.windows[j];
-        -Limits { each }.least_reaching(-high, -window.last, -window.first)
+        let tops = self.bottoms;
+        -Limits { tops, ways }.least_reaching(-high, -window.last, -window.first)
     }
 
     /// What is left of column `j`: from `low` to `high` if it is the total's, else what the total leaves of it.

@@ -1,7 +1,7 @@
 //! The first value of a column at which a total is reached, found by jumps.
 
 ghost use Rattle.std.specs.Prelude.{◌≡◌, ℕ, ◌*◌, ◌<◌, ◌≤◌, length, ℤ, pos, negsuc, ◌-ℤ◌, ◌≤ℤ◌, ◌<ℤ◌, unsigned_abs};
-ghost use Rattle.totals.specs.Reaching.{Value, Near, Reachable, Least, limited, still_rises, reach_of, moving_of, Moderate, Next};
+ghost use Rattle.totals.specs.Reaching.{Value, Near, Reachable, Least, limited, limits, still_rises, reach_of, moving_of, Moderate, Next};
 
 /// A sum has at most so many summands.
 pub const MOST_SUMMANDS: usize = 31;
@@ -22,13 +22,15 @@ pub struct Reached {
     pub moving: u64,
 }
 
-/// The limits of the summands of a total.
-// Pairs: with a row of tops and a row of ways a trim takes a tenth longer.
+/// The limits of the summands of a total: a top and a way for each.
+// Two rows: the tops are the same for every column that a trim cuts, and only the ways are filled for each.
 #[derive(Clone, Copy)]
 pub(crate) struct Limits<'a> {
-    pub(crate) each: &'a [Limit],
-    ghost few: { length each.now ≤ 31 },
-    ghost reachable: { Reachable each.now },
+    pub(crate) tops: &'a [i32],
+    pub(crate) ways: &'a [i32],
+    ghost even: { length ways.now ≡ length tops.now },
+    ghost few: { length tops.now ≤ 31 },
+    ghost reachable: { Reachable (limits tops.now ways.now) },
 }
 
 impl Limit {
@@ -84,14 +86,15 @@ impl<'a> Limits<'a> {
     /// How far the total reaches when the column stands at `v`.
     fn reach(&self, v: i32) -> Reached
         requires { Value v }
-        ensures sum { result.sum ≡ reach_of self.now.each.now v }
-        ensures moving { result.moving ≡ moving_of self.now.each.now v }
+        ensures sum { result.sum ≡ reach_of (limits self.now.tops.now self.now.ways.now) v }
+        ensures moving { result.moving ≡ moving_of (limits self.now.tops.now self.now.ways.now) v }
         ensures moderate { Moderate result.sum }
     {
         let mut sum = 0;
         let mut moving = 0;
-        for limit in self.each {
-            let one = limit.reach(v);
+        for (a, top) in self.tops.iter().enumerate() {
+            let way = self.ways[a];
+            let one = Limit { top: *top, way }.reach(v);
             sum += one.sum;
             moving += one.moving;
         }
@@ -103,8 +106,8 @@ impl<'a> Limits<'a> {
         requires first { Value first }
         requires last { Value last }
         requires order { first ≤ℤ last }
-        requires reached { goal ≤ℤ reach_of self.now.each.now last }
-        ensures least { Least self.now.each.now goal first result }
+        requires reached { goal ≤ℤ reach_of (limits self.now.tops.now self.now.ways.now) last }
+        ensures least { Least (limits self.now.tops.now self.now.ways.now) goal first result }
         ensures upto { result ≤ℤ last }
     {
         let mut v = first;

@@ -5,7 +5,8 @@ ghost use Rattle.rules.specs.Plans.{all_lawful};
 ghost use Rattle.differences.specs.Tables.{Closed};
 ghost use Rattle.totals.specs.Cuts.{Columns, TotalOutcome};
 
-use crate::cutting::Settled;
+use crate::cutting::{Settled, fill_bottoms, fill_tops};
+use crate::reaching::MOST_SUMMANDS;
 use differences::{Distance, trim_by};
 use rules::window::ROOM;
 use rules::{Verdict, Window};
@@ -32,11 +33,19 @@ pub(crate) fn trim_total<D: Distance>(
     match trim_by(distances, copy).unwrap() {
         Verdict::Void => Verdict::Void,
         Verdict::Open => {
+            let mut highest = [0; MOST_SUMMANDS];
+            let tops = &mut highest[..summands.len()];
+            fill_tops(tops, copy, summands);
+            let mut lowest = [0; MOST_SUMMANDS];
+            let bottoms = &mut lowest[..summands.len()];
+            fill_bottoms(bottoms, copy, summands);
             let settled = Settled {
                 distances,
                 windows: copy,
                 total,
                 summands,
+                tops,
+                bottoms,
             };
             settled.meet(windows)
         }

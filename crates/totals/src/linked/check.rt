@@ -10,13 +10,27 @@ use crate::reaching::MOST_SUMMANDS;
 use differences::Link;
 use differences::check::{MOST_LINKS, first_absent, first_unbounded};
 use rings::check_rings;
-use rules::{Fault, check_columns};
+use rules::{Fault, Test, check_columns};
 
 /// The link joins two columns other than the total.
 fn joins_others(link: &Link, total: usize) -> bool
     ensures { result ≡ other_columns total link.now }
 {
     link.has_two_columns() && link.left != total && link.right != total
+}
+
+/// The test that a link joins two columns other than the total.
+#[derive(Clone, Copy)]
+pub struct OtherColumns {
+    pub total: usize,
+}
+
+impl Test<Link> for OtherColumns {
+    ghost accepts = { λ s l. other_columns s.total l };
+
+    fn passes(&self, item: Link) -> bool {
+        joins_others(&item, self.total)
+    }
 }
 
 /// The index of the first link of a column with itself or with the total.

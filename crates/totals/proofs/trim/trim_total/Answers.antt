@@ -25,6 +25,8 @@ invariant_of-settled g c =
       few = c.requires.few;
       there = subst (λ (j : ℕ). Columns j c.args.summands.now) (sym long) c.requires.there;
       here = omega (arith, c.requires.here);
+      highest = c.fill_tops.ensures;
+      lowest = c.fill_bottoms.ensures;
     }
 
 pub returns-in-Open : goal.returns-in-Open

@@ -1,4 +1,4 @@
-use Rattle.std.proofs.Common.{◌≡◌, length, rules, arith}
+use Rattle.std.proofs.Common.{sym, ◌∙◌, rules, arith}
 use Rattle.std.proofs.lemmas.Int.{ints}
 use Rattle.differences.specs.Ends.{last_at}
 use Rattle.totals.proofs.Ends.{ends_at, upward_row, up_reachable, up_most, first_left}
@@ -8,9 +8,9 @@ pub invariant_of-least_reaching : goal.invariant_of-least_reaching
 invariant_of-least_reaching g c =
     let s = c.args.self.now in
     let d = g.D.Distance.distance s.distances.now in
-    let long : length c.fill.new.row ≡ length s.summands.now = search rules in
-    let up = upward_row d s.windows.now s.summands.now c.args.j _ long (λ a l. let p = c.fill.ensures.each a l in search rules) in
-    record { few = let n = up.long in let few = s.few in omega arith; reachable = up_reachable d s.windows.now s.summands.now c.args.j _ s.closed s.lawful s.there c.requires.here up }
+    let long = c.fill.ensures.long in
+    let up = upward_row d s.windows.now s.summands.now c.args.j s.tops.now c.fill.new.row long s.highest (λ a l. let p = c.fill.ensures.each a l in search rules) in
+    record { even = long ∙ sym s.highest.long; few = let n = s.highest.long in let few = s.few in omega arith; reachable = up_reachable d s.windows.now s.summands.now c.args.j _ s.closed s.lawful s.there c.requires.here up }
 
 pub least_reaching-requires : goal.least_reaching-requires
 least_reaching-requires g c =
@@ -19,8 +19,8 @@ least_reaching-requires g c =
     let d = g.D.Distance.distance s.distances.now in
     let e = ends_at s.windows.now j s.lawful c.requires.here in
     let h = c.ranges.low in
-    let long : length c.fill.new.row ≡ length s.summands.now = search rules in
-    let up = upward_row d s.windows.now s.summands.now c.args.j _ long (λ a l. let p = c.fill.ensures.each a l in search rules) in
+    let long = c.fill.ensures.long in
+    let up = upward_row d s.windows.now s.summands.now c.args.j s.tops.now c.fill.new.row long s.highest (λ a l. let p = c.fill.ensures.each a l in search rules) in
     record {
       first = (omega (arith, ints), omega (arith, ints));
       last = (omega (arith, ints), omega (arith, ints));
@@ -36,7 +36,7 @@ returns g c =
     let e = ends_at s.windows.now j s.lawful c.requires.here in
     let h = c.ranges.low in
     let ok = c.least_reaching.type_inv in
-    let long : length c.fill.new.row ≡ length s.summands.now = search rules in
-    let up = upward_row d s.windows.now s.summands.now c.args.j _ long (λ a l. let p = c.fill.ensures.each a l in search rules) in
+    let long = c.fill.ensures.long in
+    let up = upward_row d s.windows.now s.summands.now c.args.j s.tops.now c.fill.new.row long s.highest (λ a l. let p = c.fill.ensures.each a l in search rules) in
     first_left d s.windows.now s.summands.now j _ s.closed s.lawful s.there c.requires.here up
     c.args.low _ _ _ _ c.least_reaching.ensures.least (omega (arith, ints)) (omega (arith, ints)) (omega (arith, ints))

@@ -1,4 +1,4 @@
-use Rattle.std.proofs.Common.{◌≡◌, length, rules, arith}
+use Rattle.std.proofs.Common.{sym, ◌∙◌, rules, arith}
 use Rattle.std.proofs.lemmas.Int.{ints}
 use Rattle.differences.specs.Ends.{first_at}
 use Rattle.totals.proofs.Ends.{ends_at, downward_row, down_reachable, down_most, last_left}
@@ -8,9 +8,9 @@ pub invariant_of-least_reaching : goal.invariant_of-least_reaching
 invariant_of-least_reaching g c =
     let s = c.args.self.now in
     let d = g.D.Distance.distance s.distances.now in
-    let long : length c.fill.new.row ≡ length s.summands.now = search rules in
-    let down = downward_row d s.windows.now s.summands.now c.args.j _ long (λ a l. let p = c.fill.ensures.each a l in search rules) in
-    record { few = let n = down.long in let few = s.few in omega arith; reachable = down_reachable d s.windows.now s.summands.now c.args.j _ s.closed s.lawful s.there c.requires.here down }
+    let long = c.fill.ensures.long in
+    let down = downward_row d s.windows.now s.summands.now c.args.j s.bottoms.now c.fill.new.row long s.lowest (λ a l. let p = c.fill.ensures.each a l in search rules) in
+    record { even = long ∙ sym s.lowest.long; few = let n = s.lowest.long in let few = s.few in omega arith; reachable = down_reachable d s.windows.now s.summands.now c.args.j _ s.closed s.lawful s.there c.requires.here down }
 
 pub overflow_sub-window : goal.overflow_sub-window
 overflow_sub-window g c =
@@ -32,8 +32,8 @@ least_reaching-requires g c =
     let e = ends_at s.windows.now j s.lawful c.requires.here in
     let h = c.ranges.high in
     let m = c.requires.moderate in
-    let long : length c.fill.new.row ≡ length s.summands.now = search rules in
-    let down = downward_row d s.windows.now s.summands.now c.args.j _ long (λ a l. let p = c.fill.ensures.each a l in search rules) in
+    let long = c.fill.ensures.long in
+    let down = downward_row d s.windows.now s.summands.now c.args.j s.bottoms.now c.fill.new.row long s.lowest (λ a l. let p = c.fill.ensures.each a l in search rules) in
     record {
       first = (omega (arith, ints), omega (arith, ints));
       last = (omega (arith, ints), omega (arith, ints));
@@ -59,7 +59,7 @@ returns g c =
     let m = c.requires.moderate in
     let lo = c.least_reaching.ensures.least.late in
     let hi = c.least_reaching.ensures.upto in
-    let long : length c.fill.new.row ≡ length s.summands.now = search rules in
-    let down = downward_row d s.windows.now s.summands.now c.args.j _ long (λ a l. let p = c.fill.ensures.each a l in search rules) in
+    let long = c.fill.ensures.long in
+    let down = downward_row d s.windows.now s.summands.now c.args.j s.bottoms.now c.fill.new.row long s.lowest (λ a l. let p = c.fill.ensures.each a l in search rules) in
     last_left d s.windows.now s.summands.now j _ s.closed s.lawful s.there c.requires.here down
     c.args.high _ _ _ _ c.least_reaching.ensures.least (omega (arith, ints)) (omega (arith, ints)) (omega (arith, ints))

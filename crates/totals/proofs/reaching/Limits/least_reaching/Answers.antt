@@ -1,14 +1,18 @@
-use Rattle.std.proofs.Common.{◌-ℤ◌, ◌<ℤ◌, refl, ap, arith, w32, w64, SFits}
+use Rattle.std.proofs.Common.{◌≤◌, length, ◌-ℤ◌, ◌<ℤ◌, refl, ap, arith, w32, w64, SFits}
 use Rattle.std.proofs.lemmas.Int.{ints, to_z-of_z}
-use Rattle.totals.specs.Reaching.{Value, reach_of}
+use Rattle.totals.specs.Reaching.{Value, limits, reach_of}
+use Rattle.totals.proofs.LimitRows.{limits_long}
 use Rattle.totals.proofs.Jumping.{Asked, Jumping, jumping_same, jumping_none, jumping_more, jumping_all, some_move, within, deficit_bound, few_move, bounds}
 use Rattle.totals.proofs.reaching.Limits.least_reaching.Goals as goal
 
-asked : (c : goal.After-struct_told-in-loop-at-1) → Asked c.args.self.now.each.now c.args.goal c.args.last
-asked c = record { few = c.args.self.now.few; reachable = c.args.self.now.reachable; value = c.requires.last; reached = c.requires.reached }
+few : (c : goal.After-struct_told-in-loop-at-1) → length (limits c.args.self.now.tops.now c.args.self.now.ways.now) ≤ 31
+few c = let s = c.args.self.now in let f = s.few in omega (arith, limits_long s.tops.now s.ways.now s.even)
+
+asked : (c : goal.After-struct_told-in-loop-at-1) → Asked (limits c.args.self.now.tops.now c.args.self.now.ways.now) c.args.goal c.args.last
+asked c = record { few = few c; reachable = c.args.self.now.reachable; value = c.requires.last; reached = c.requires.reached }
 
 -- the state of the loop in plain numbers
-state : (c : goal.After-struct_told-in-loop-at-1) → Jumping c.args.self.now.each.now c.args.goal c.args.first c.args.last c.loop-at.v c.loop-at.at.sum c.loop-at.at.moving
+state : (c : goal.After-struct_told-in-loop-at-1) → Jumping (limits c.args.self.now.tops.now c.args.self.now.ways.now) c.args.goal c.args.first c.args.last c.loop-at.v c.loop-at.at.sum c.loop-at.at.moving
 state c = jumping_same _ _ _ _ _ _ _ _ _ _ _ _ (to_z-of_z w64 _ c.ranges.goal) (to_z-of_z w32 _ c.ranges.first) (to_z-of_z w32 _ c.ranges.last) c.loop-at.v-is refl c.loop-at.invariant
 
 value : (c : goal.After-struct_told-in-loop-at-1) → Value c.loop-at.v
@@ -33,9 +37,9 @@ next-v-requires c =
     let l = less c in
     let b = deficit_bound _ _ _ _ (asked c) _ _ _ (value c) (state c) (less c) in
     let d : SFits w64 (c.args.goal -ℤ c.loop-at.at.sum) = omega (arith, ints) in
-    let m = few_move c.args.self.now.each.now c.loop-at.v in
+    let m = few_move (limits c.args.self.now.tops.now c.args.self.now.ways.now) c.loop-at.v in
     let many = (state c).moving_is in
-    let most = c.args.self.now.few in
+    let most = few c in
     simp (c.loop-at.v-is, to_z-of_z)
     record {
       value = value c;
@@ -71,11 +75,13 @@ loop-at-preserved c =
     let l = c.requires.last in
     let r = c.requires.reached in
     let e = to_z-of_z w32 c.args.last c.ranges.last in
-    let a = ap (reach_of c.args.self.now.each.now) e in
-    let b = bounds c.args.self.now.each.now c.args.last c.requires.last c.args.self.now.reachable in
-    let few = c.args.self.now.few in
+    let a = ap (reach_of (limits c.args.self.now.tops.now c.args.self.now.ways.now)) e in
+    let b = bounds (limits c.args.self.now.tops.now c.args.self.now.ways.now) c.args.last c.requires.last c.args.self.now.reachable in
+    let s = c.args.self.now in
+    let f0 = s.few in
+    let short : length (limits s.tops.now s.ways.now) ≤ 31 = omega (arith, limits_long s.tops.now s.ways.now s.even) in
     jumping_more _ _ _ _
-    (record { few = few; reachable = c.args.self.now.reachable; value = (omega (arith, ints), omega (arith, ints)); reached = omega (arith, ints) })
+    (record { few = short; reachable = c.args.self.now.reachable; value = (omega (arith, ints), omega (arith, ints)); reached = omega (arith, ints) })
     _ _ _ (omega (arith, ints), omega (arith, ints)) c.loop-at.invariant (omega (arith, ints, c.loop-at-test.true)) _ _ _ _ _ c.next-v.ensures (omega (arith, ints, c.loop-at-test.true)) (omega (arith, ints))
     c.reach-at-in-loop-at.ensures.sum c.reach-at-in-loop-at.ensures.moving c.reach-at-in-loop-at.ensures.moderate
 
